@@ -1,0 +1,175 @@
+-- The joint table: document 01's marked cases A to I, without the printing, as calls with the answers that it marks; then three cases of our own.
+-- Each case begins at the empty plan. The one proof over the whole table is in proofs/JointTable.antt.
+-- Assumes nothing.
+use Prim.Native.Nat.{ℕ}
+use mathlib.Core.List.{List, [], _∷_, _++_}
+use mathlib.Core.Option.{Option, none, some}
+use lib.ListN.{length}
+use Rattle.tree.specs.declared.Row.{Row}
+use Rattle.tree.specs.Tree.{Tree, nothing, row, path-of}
+use Rattle.tree.specs.Asking.{owner, rows-11, Shown}
+use Rattle.tree.specs.Calls.{open-line, close-line, Answer, booked, done, refused, answer, after, Outcome, gives, refuses, show-outcome, turns-outcome}
+
+-- a call or a question with its answer
+pub data Step : Type 0 where
+  opens : ℕ → ℕ → Answer → Step
+  closes : ℕ → Answer → Step
+  owner-of : ℕ → Option ℕ → Step
+  show : ℕ → Outcome Shown → Step
+  turns-of : ℕ → ℕ → Outcome ℕ → Step
+  nodes-above : ℕ → ℕ → Step
+
+-- the same call or question, with the answer that the definitions give in tree t
+unfoldable pub answered : Tree → Step → Step
+answered t (opens L p a) = opens L p (answer (open-line L p) t)
+answered t (closes L a) = closes L (answer (close-line L) t)
+answered t (owner-of n a) = owner-of n (owner n t)
+answered t (show L a) = show L (show-outcome L t)
+answered t (turns-of L N a) = turns-of L N (turns-outcome L N t)
+answered t (nodes-above L a) = nodes-above L (length (path-of L t))
+
+-- the tree that it leaves
+unfoldable pub next : Tree → Step → Tree
+next t (opens L p a) = after (open-line L p) t
+next t (closes L a) = after (close-line L) t
+next t (owner-of n a) = t
+next t (show L a) = t
+next t (turns-of L N a) = t
+next t (nodes-above L a) = t
+
+-- a whole case answered by the definitions, from tree t
+unfoldable pub replayed : Tree → List Step → List Step
+replayed t [] = []
+replayed t (s ∷ ss) = answered t s ∷ replayed (next t s) ss
+
+-- the tree that a whole case leaves
+unfoldable pub left-by : Tree → List Step → Tree
+left-by t [] = t
+left-by t (s ∷ ss) = left-by (next t s) ss
+
+-- a line's period, start and path as show answers them
+unfoldable pub shows : ℕ → ℕ → List Row → Outcome Shown
+shows p s rs = gives (record { period = p; start = s; rows = rows-11 rs })
+
+unfoldable pub bookings-A : List Step
+bookings-A =
+    opens 1 4 (booked 0)
+    ∷ opens 2 6 (booked 1)
+    ∷ opens 3 8 (booked 2)
+    ∷ opens 4 2 (refused 5)
+    ∷ opens 4 12 (booked 3)
+    ∷ []
+
+unfoldable pub questions-A : List Step
+questions-A =
+    owner-of 7 (some 2)
+    ∷ owner-of 10 (some 3)
+    ∷ owner-of 9 none
+    ∷ show 1 (shows 4 0 (row 2 0 ∷ row 2 0 ∷ []))
+    ∷ show 4 (shows 12 3 (row 2 1 ∷ row 3 1 ∷ row 2 0 ∷ []))
+    ∷ turns-of 4 100 (gives 9)
+    ∷ []
+
+unfoldable pub case-A : List Step
+case-A = bookings-A ++ questions-A
+
+unfoldable pub case-B : List Step
+case-B = opens 1 4 (booked 0) ∷ opens 2 4 (booked 1) ∷ opens 3 2 (refused 5) ∷ []
+
+unfoldable pub case-C : List Step
+case-C = opens 1 6 (booked 0) ∷ opens 2 12 (booked 1) ∷ opens 3 12 (booked 7) ∷ []
+
+unfoldable pub case-D : List Step
+case-D = opens 1 1 (booked 0) ∷ opens 2 1 (refused 5) ∷ opens 2 4095 (refused 5) ∷ []
+
+unfoldable pub case-E : List Step
+case-E = opens 1 2 (booked 0) ∷ opens 2 3 (refused 5) ∷ []
+
+unfoldable pub case-F : List Step
+case-F =
+    opens 0 2 (booked 0)
+    ∷ opens 1 4 (booked 1)
+    ∷ opens 2 8 (booked 3)
+    ∷ opens 3 16 (booked 7)
+    ∷ opens 4 32 (booked 15)
+    ∷ opens 5 64 (booked 31)
+    ∷ opens 6 128 (booked 63)
+    ∷ opens 7 256 (booked 127)
+    ∷ opens 8 512 (booked 255)
+    ∷ opens 9 1024 (booked 511)
+    ∷ opens 10 2048 (booked 1023)
+    ∷ nodes-above 10 11
+    ∷ []
+
+unfoldable pub case-G : List Step
+case-G = opens 1 4095 (booked 0) ∷ opens 2 4096 (refused 2) ∷ opens 2 0 (refused 2) ∷ []
+
+unfoldable pub case-H : List Step
+case-H = opens 63 5 (booked 0) ∷ opens 64 5 (refused 1) ∷ []
+
+unfoldable pub case-I : List Step
+case-I =
+    opens 1 6 (booked 0)
+    ∷ opens 2 2 (booked 1)
+    ∷ opens 3 3 (refused 5)
+    ∷ closes 2 done
+    ∷ opens 3 3 (refused 5)
+    ∷ closes 2 (refused 4)
+    ∷ []
+
+-- ours: a split moves no start, also where the edge that goes under the new node is not 0
+unfoldable pub split-keeps-starts : List Step
+split-keeps-starts =
+    opens 1 6 (booked 0)
+    ∷ opens 2 6 (booked 1)
+    ∷ opens 3 3 (booked 2)
+    ∷ show 1 (shows 6 0 (row 3 0 ∷ row 2 0 ∷ []))
+    ∷ show 2 (shows 6 1 (row 3 1 ∷ row 2 0 ∷ []))
+    ∷ owner-of 7 (some 2)
+    ∷ owner-of 4 none
+    ∷ owner-of 5 (some 3)
+    ∷ []
+
+-- ours: an emptied plan is the fresh one, and an emptied node below a line that stays is gone
+unfoldable pub emptied-is-fresh : List Step
+emptied-is-fresh =
+    opens 1 6 (booked 0)
+    ∷ opens 2 12 (booked 1)
+    ∷ closes 2 done
+    ∷ opens 3 6 (booked 1)
+    ∷ closes 1 done
+    ∷ closes 3 done
+    ∷ owner-of 0 none
+    ∷ opens 4 4 (booked 0)
+    ∷ show 4 (shows 4 0 (row 4 0 ∷ []))
+    ∷ []
+
+-- ours: of two checks that both refuse, the earlier one gives the number
+unfoldable pub checks-in-sequence : List Step
+checks-in-sequence =
+    closes 64 (refused 1)
+    ∷ opens 64 0 (refused 1)
+    ∷ opens 5 2 (booked 0)
+    ∷ opens 5 0 (refused 2)
+    ∷ opens 5 3 (refused 3)
+    ∷ show 64 (refuses 1)
+    ∷ show 6 (refuses 4)
+    ∷ turns-of 64 7 (refuses 1)
+    ∷ turns-of 6 7 (refuses 4)
+    ∷ []
+
+unfoldable pub cases : List (List Step)
+cases =
+    case-A
+    ∷ case-B
+    ∷ case-C
+    ∷ case-D
+    ∷ case-E
+    ∷ case-F
+    ∷ case-G
+    ∷ case-H
+    ∷ case-I
+    ∷ split-keeps-starts
+    ∷ emptied-is-fresh
+    ∷ checks-in-sequence
+    ∷ []

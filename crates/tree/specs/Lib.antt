@@ -1,0 +1,14 @@
+-- What a reader must believe: document 01 as definitions, in its own order. A mark such as (The tree, 6) names the sentence that a definition renders,
+-- counted within that section of document 01; docs/TRACE.md has them all.
+pub mod Numbers
+pub mod Search
+pub mod Tree
+pub mod Shape
+pub mod Opening
+pub mod Closing
+pub mod Asking
+pub mod Refusals
+pub mod Calls
+pub mod Lists
+pub mod Record
+pub mod Cases

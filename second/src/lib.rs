@@ -1,0 +1,22 @@
+//! A second implementation of document 01, written from that document alone.
+//! It writes the outputs that the proved program is tested against.
+//!
+//! Comments cite document 01 as (section, sentence), counted within the section; the one
+//! word before the items of Opening a line is not counted. (Refusals, 3) is refusal 3 of
+//! the section Who brings a refusal about, (Marked cases, A) is case A.
+
+pub mod ask;
+pub mod book;
+pub mod lists;
+pub mod orders;
+pub mod random;
+pub mod refusal;
+pub mod shapes;
+pub mod tree;
+
+#[cfg(test)]
+mod cases;
+#[cfg(test)]
+mod ledger;
+#[cfg(test)]
+mod naive;
