@@ -3,6 +3,7 @@
 pub mod Numbers
 pub mod Search
 pub mod Tree
+pub mod Standing
 pub mod Shape
 pub mod Opening
 pub mod Closing

@@ -4,7 +4,7 @@ use Prim.Native.Nat.{ℕ, zero, suc, _+_, _*_, _/_, _%_}
 use mathlib.Core.Path.{_≡_}
 use mathlib.Core.Bool.{Bool, true, false, not, _&&_}
 use mathlib.Core.Option.{Option, none, some, Option·map, Option·getD}
-use lib.Dec.{T, eqb, ltb}
+use lib.Dec.{eqb, ltb}
 use Rattle.tree.specs.Numbers.{divides, gcd}
 use Rattle.tree.specs.Search.{if_then_else_, found, smallest, some-below}
 use Rattle.tree.specs.Tree.{Tree, nothing, line, node, present, Place, at, step}
@@ -46,8 +46,8 @@ before a b =
 
 -- the one chosen, said of every level and offset: it is a candidate, and no candidate comes before it
 pub record IsChosen (p : ℕ) (t : Tree) (a : Place) : Type 0 where
-  pub is-candidate : T (candidate-at p t a)
-  pub none-before : (b : Place) → T (candidate-at p t b) → before b a ≡ false
+  pub is-candidate : candidate-at p t a ≡ true
+  pub none-before : (b : Place) → candidate-at p t b ≡ true → before b a ≡ false
 
 unfoldable pub better : Option Place → Option Place → Option Place
 better none b = b
