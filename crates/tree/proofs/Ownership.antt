@@ -1,0 +1,65 @@
+-- Ownership: the walk for a round finds line L exactly when L stands in the tree with a period and a start that the round fits.
+-- Assumes nothing.
+use Prim.Native.Nat.{ℕ, _+_, _*_, _/_, _%_, _<_}
+use native.Mathlib.Nat.{mod-lt, mod-one}
+use mathlib.Core.Path.{_≡_, refl, sym, _∙_, ap, subst}
+use mathlib.Core.Logic.{_↔_}
+use mathlib.Core.Option.{Option, none, some, Option·none-ne-some}
+use Rattle.tree.specs.Tree.{Tree, nothing, line, node}
+use Rattle.tree.specs.Standing.{Stands}
+use Rattle.tree.specs.Asking.{owner}
+use Rattle.tree.proofs.Digits.{digit}
+use Rattle.tree.proofs.Proper.{Proper}
+use Rattle.tree.proofs.Standing.{start-below-period}
+
+-- line L stands where round n leads
+pub record Owns (L n : ℕ) (t : Tree) : Type 0 where
+  pub period : ℕ
+  pub start : ℕ
+  pub stands : Stands L t period start
+  pub fits : n % period ≡ start
+
+pub walk-owns : (L n : ℕ) (t : Tree) → Proper t → owner n t ≡ some L → Owns L n t
+unfolding owner Proper Stands
+walk-owns L n nothing proper h = absurd (Option·none-ne-some L h)
+walk-owns L n (line k) proper h = record { period = 1; start = 0; stands = ((cc), refl, refl); fits = mod-one n }
+walk-owns L n (node w f) proper h =
+    let below = walk-owns L (n / w) (f (n % w)) (proper .2 (n % w)) h in
+    let edge-below = mod-lt n (proper .0) in
+    let start-below = start-below-period L (f (n % w)) (below .period) (below .start) (below .stands) in
+    record {
+      period = w * below .period;
+      start = n % w + w * below .start;
+      stands =
+          record {
+            edge = n % w;
+            period = below .period;
+            start = below .start;
+            edge-below = edge-below;
+            stands = below .stands;
+            period-is = refl;
+            start-is = refl;
+          };
+      fits = digit n w (below .period) (n % w) (below .start) edge-below start-below .1 (refl, below .fits);
+    }
+
+pub stands-walk : (L n : ℕ) (t : Tree) (q u : ℕ) → Stands L t q u → n % q ≡ u → owner n t ≡ some L
+unfolding owner Stands
+stands-walk L n nothing q u h fits = absurd h
+stands-walk L n (line k) q u h fits = ap some (h .0)
+stands-walk L n (node w f) q u h fits =
+    let start-below = start-below-period L (f (h .edge)) (h .period) (h .start) (h .stands) in
+    let fits-sum : n % (w * h .period) ≡ h .edge + w * h .start = rw (h .period-is, h .start-is) at fits in
+    let digits = digit n w (h .period) (h .edge) (h .start) (h .edge-below) start-below .0 fits-sum in
+    rw (digits .0) (stands-walk L (n / w) (f (h .edge)) (h .period) (h .start) (h .stands) (digits .1))
+
+-- for every whole number n
+pub owner-exactly : (L n : ℕ) (t : Tree) → Proper t → (owner n t ≡ some L) ↔ Owns L n t
+owner-exactly L n t proper =
+    (walk-owns L n t proper, λ h. stands-walk L n t (h .period) (h .start) (h .stands) (h .fits))
+
+pub no-two-owners : (L M n : ℕ) (t : Tree) → Owns L n t → Owns M n t → L ≡ M
+no-two-owners L M n t a b =
+    let by-L = stands-walk L n t (a .period) (a .start) (a .stands) (a .fits) in
+    let by-M = stands-walk M n t (b .period) (b .start) (b .stands) (b .fits) in
+    cc

@@ -1,0 +1,80 @@
+-- What the laws need of a tree: in every node a weight above 0, and edges as document 01 wants them. Every legal tree has it.
+-- Assumes nothing.
+use Prim.Native.Nat.{ℕ, _<_, _≤_, _*_}
+use native.Mathlib.Omega.{arith}
+use native.Mathlib.Decide.{ℕ-discrete}
+use mathlib.Core.Path.{_≡_, refl, sym, _∙_, ap, subst}
+use mathlib.Core.Logic.{_⊎_, inl, inr}
+use mathlib.Core.Bool.{Bool, true, false}
+use lib.Dec.{eqb}
+use borrow.Author.Tests.{eq-eqb, ne-eqb}
+use Rattle.tree.specs.Search.{found}
+use Rattle.tree.specs.Tree.{Tree, nothing, line, node, present, path, is-open}
+use Rattle.tree.specs.Opening.{put, one-edge}
+use Rattle.tree.specs.Shape.{Edges, LegalUnder, Legal}
+use Rattle.tree.proofs.Searching.{some-below-at}
+
+unfoldable pub Proper : Tree → Type 0
+Proper nothing = Unit {0}
+Proper (line n) = Unit {0}
+Proper (node w f) = (0 < w) × Edges w f × ((e : ℕ) → Proper (f e))
+
+-- What stands under an edge after something was put under one
+
+pub put-same : (i e : ℕ) (t : Tree) (f : ℕ → Tree) → e ≡ i → put i t f e ≡ t
+unfolding put
+put-same i e t f h = rw (eq-eqb e i h)
+
+pub put-other : (i e : ℕ) (t : Tree) (f : ℕ → Tree) → (e ≡ i → ⊥) → put i t f e ≡ f e
+unfolding put
+put-other i e t f h = rw (ne-eqb e i h)
+
+-- A node with the one edge 0
+
+nothing-open : (L : ℕ) (t : Tree) → t ≡ nothing → is-open L t ≡ true → ⊥
+unfolding is-open path found
+nothing-open L t e h =
+    let none-found : is-open L nothing ≡ true = rw e at h in
+    let z : _≡_ {A = ℕ} 0 1 = cc in
+    omega arith
+
+only-edge-0 : (L e : ℕ) (t : Tree) → is-open L (put 0 t (λ k. nothing) e) ≡ true → e ≡ 0
+only-edge-0 L e t h =
+    elim (ℕ-discrete e 0) [ yes z ↦ z | no z ↦ absurd (nothing-open L _ (put-other 0 e t (λ k. nothing) z) h) ]
+
+pub one-edge-edges : (w : ℕ) (t : Tree) → 0 < w → present t ≡ true → Edges w (put 0 t (λ e. nothing))
+one-edge-edges w t positive here =
+    record {
+      below-weight = λ e h. put-other 0 e t (λ k. nothing) (λ z. omega arith);
+      not-empty = some-below-at w _ 0 positive (ap present (put-same 0 0 t (λ k. nothing) refl) ∙ here);
+      line-once = λ L e k a b. only-edge-0 L e t a ∙ sym (only-edge-0 L k t b);
+    }
+
+one-edge-proper : (w : ℕ) (t : Tree) → 0 < w → present t ≡ true → Proper t → Proper (one-edge w t)
+unfolding one-edge Proper
+one-edge-proper w t positive here proper = (positive, one-edge-edges w t positive here, below)
+  where
+    below : (e : ℕ) → Proper (put 0 t (λ k. nothing) e)
+    below e =
+        elim (ℕ-discrete e 0) [
+          | yes z ↦ rw (put-same 0 e t (λ k. nothing) z) proper
+          | no z ↦ rw (put-other 0 e t (λ k. nothing) z) tt
+        ]
+
+-- Legal trees are proper
+
+pub legal-under-proper : (m : ℕ) (t : Tree) → LegalUnder m t → Proper t
+unfolding LegalUnder Proper
+legal-under-proper m nothing h = tt
+legal-under-proper m (line n) h = tt
+legal-under-proper m (node w f) h =
+    let two = h .0 in
+    (omega arith, h .1, λ e. legal-under-proper (m * w) (f e) (h .2 e))
+
+pub legal-proper : (t : Tree) → Legal t → Proper t
+unfolding Legal Proper present
+legal-proper nothing h = tt
+legal-proper (line n) h = absurd h
+legal-proper (node w f) (inl h) = legal-under-proper 1 (node w f) h
+legal-proper (node w f) (inr h) =
+    subst Proper (sym (h .tree)) (one-edge-proper 1 (line (h .number)) (omega arith) refl tt)
