@@ -1,7 +1,20 @@
+-- The joint table
 pub mod JointTable
+-- Numbers and searches
 pub mod Digits
 pub mod Divisors
 pub mod Searching
+-- Where a line stands, and who owns a round
+pub mod UnderEdge
+pub mod Put
 pub mod Proper
 pub mod Standing
 pub mod Ownership
+-- Opening
+pub mod PlaceOrder
+pub mod ChosenCandidate
+pub mod Classes
+pub mod Split
+pub mod Booking
+-- Closing
+pub mod Closing

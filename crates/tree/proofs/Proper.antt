@@ -5,13 +5,12 @@ use native.Mathlib.Omega.{arith}
 use native.Mathlib.Decide.{ℕ-discrete}
 use mathlib.Core.Path.{_≡_, refl, sym, _∙_, ap, subst}
 use mathlib.Core.Logic.{_⊎_, inl, inr}
-use mathlib.Core.Bool.{Bool, true, false}
-use lib.Dec.{eqb}
-use borrow.Author.Tests.{eq-eqb, ne-eqb}
+use mathlib.Core.Bool.{true, false, false≢true}
 use Rattle.tree.specs.Search.{found}
 use Rattle.tree.specs.Tree.{Tree, nothing, line, node, present, path, is-open}
 use Rattle.tree.specs.Opening.{put, one-edge}
 use Rattle.tree.specs.Shape.{Edges, LegalUnder, Legal}
+use Rattle.tree.proofs.Put.{put-same, put-other, put-each}
 use Rattle.tree.proofs.Searching.{some-below-at}
 
 unfoldable pub Proper : Tree → Type 0
@@ -19,24 +18,13 @@ Proper nothing = Unit {0}
 Proper (line n) = Unit {0}
 Proper (node w f) = (0 < w) × Edges w f × ((e : ℕ) → Proper (f e))
 
--- What stands under an edge after something was put under one
-
-pub put-same : (i e : ℕ) (t : Tree) (f : ℕ → Tree) → e ≡ i → put i t f e ≡ t
-unfolding put
-put-same i e t f h = rw (eq-eqb e i h)
-
-pub put-other : (i e : ℕ) (t : Tree) (f : ℕ → Tree) → (e ≡ i → ⊥) → put i t f e ≡ f e
-unfolding put
-put-other i e t f h = rw (ne-eqb e i h)
-
 -- A node with the one edge 0
 
-nothing-open : (L : ℕ) (t : Tree) → t ≡ nothing → is-open L t ≡ true → ⊥
+pub nothing-open : (L : ℕ) (t : Tree) → t ≡ nothing → is-open L t ≡ true → ⊥
 unfolding is-open path found
 nothing-open L t e h =
-    let none-found : is-open L nothing ≡ true = rw e at h in
-    let z : _≡_ {A = ℕ} 0 1 = cc in
-    omega arith
+    let none-found : false ≡ true = rw e at h in
+    false≢true none-found
 
 only-edge-0 : (L e : ℕ) (t : Tree) → is-open L (put 0 t (λ k. nothing) e) ≡ true → e ≡ 0
 only-edge-0 L e t h =
@@ -52,14 +40,8 @@ one-edge-edges w t positive here =
 
 one-edge-proper : (w : ℕ) (t : Tree) → 0 < w → present t ≡ true → Proper t → Proper (one-edge w t)
 unfolding one-edge Proper
-one-edge-proper w t positive here proper = (positive, one-edge-edges w t positive here, below)
-  where
-    below : (e : ℕ) → Proper (put 0 t (λ k. nothing) e)
-    below e =
-        elim (ℕ-discrete e 0) [
-          | yes z ↦ rw (put-same 0 e t (λ k. nothing) z) proper
-          | no z ↦ rw (put-other 0 e t (λ k. nothing) z) tt
-        ]
+one-edge-proper w t positive here proper =
+    (positive, one-edge-edges w t positive here, put-each Proper 0 t (λ k. nothing) proper (λ e other. tt))
 
 -- Legal trees are proper
 

@@ -6,9 +6,9 @@ use native.Mathlib.Nat.{eq-or-lt-of-le, le-of-suc-le-suc}
 use native.Mathlib.Decide.{decLt}
 use mathlib.Core.Path.{_≡_, refl, sym, _∙_, ap}
 use mathlib.Core.Logic.{_⊎_, inl, inr}
-use mathlib.Core.Bool.{Bool, true, false, not}
+use mathlib.Core.Bool.{Bool, true, false, true≢false, false≢true}
 use mathlib.Core.Option.{Option, none, some, Option·some-ne-none, Option·none-ne-some}
-use Rattle.tree.specs.Search.{if_then_else_, found, or-else, first, smallest, some-below, all-below}
+use Rattle.tree.specs.Search.{if_then_else_, found, or-else, first, smallest, some-below}
 
 -- what is below suc n is n or below n
 pub last-or-below : (i n : ℕ) → i < suc n → (i ≡ n) ⊎ (i < n)
@@ -34,13 +34,13 @@ pub record FirstAt {A : Type 0} (n : ℕ) (offer : ℕ → Option A) (a : A) : T
 module _ {A : Type 0} where
   pub found-some : (o : Option A) → found o ≡ true → (a : A) × (o ≡ some a)
   unfolding found
-  found-some none h = let z : _≡_ {A = ℕ} 0 1 = cc in absurd (omega arith)
+  found-some none h = absurd (false≢true h)
   found-some (some a) h = (a, refl)
 
   pub found-none : (o : Option A) → found o ≡ false → o ≡ none
   unfolding found
   found-none none h = refl
-  found-none (some a) h = let z : _≡_ {A = ℕ} 0 1 = cc in absurd (omega arith)
+  found-none (some a) h = absurd (true≢false h)
 
   or-else-none : (a b : Option A) → or-else a b ≡ none → (a ≡ none) × (b ≡ none)
   unfolding or-else

@@ -1,0 +1,187 @@
+-- The search for the chosen candidate, `chosen` of specs/Opening.antt, finds the one place that is chosen, and finds none only where no node is a candidate.
+-- Assumes nothing.
+use Prim.Native.Nat.{ℕ, zero, suc, _+_, _*_, _/_, _%_, _<_}
+use native.Mathlib.Nat.{one-mul, mul-one, mul-assoc, mod-lt, mod-add-div}
+use native.Mathlib.Decide.{ℕ-discrete}
+use native.Mathlib.Omega.{arith}
+use mathlib.Core.Path.{_≡_, refl, sym, _∙_, ap, ap₂, subst}
+use mathlib.Core.Bool.{Bool, true, false, false≢true, not-eq-not, and-false}
+use mathlib.Core.Logic.{_⊎_, inl, inr, ⊎-elim}
+use mathlib.Core.Option.{Option, none, some, Option·map}
+use Rattle.tree.specs.Numbers.{divides}
+use Rattle.tree.specs.Search.{if_then_else_, found}
+use Rattle.tree.specs.Tree.{Tree, nothing, line, node, Place, product, at-digits, at, way-by-digits, way, step}
+use Rattle.tree.specs.Opening.{free-class, candidate, candidate-at, NoCandidate, before, IsChosen, better, best-below, under, best, chosen}
+use Rattle.tree.proofs.Digits.{digit-low, digit-high}
+use Rattle.tree.proofs.Proper.{Proper}
+use Rattle.tree.proofs.PlaceOrder.{before-not-self, before-total, before-asym, not-before-trans, under-keeps-order}
+
+-- What a search picks
+
+-- the search for a place with property C ends so: no place has it, or this one has it and none before it has
+abbrev Picks : (Place → Type 0) → Option Place → Type 0
+Picks C none = (b : Place) → C b → ⊥
+Picks C (some a) = C a × ((b : Place) → C b → before b a ≡ false)
+
+module _ (C D : Place → Type 0) where
+  picks-same : ((b : Place) → C b → D b) → ((b : Place) → D b → C b) → (o : Option Place) → Picks C o → Picks D o
+  picks-same to from none P = λ b h. P b (from b h)
+  picks-same to from (some a) P = (to a (P .0), λ b h. P .1 b (from b h))
+
+  abbrev Either : Place → Type 0
+  Either b = C b ⊎ D b
+
+  picks-earlier : (a b : Place) → Picks C (some a) → Picks D (some b) → (t : Bool) → before b a ≡ t → Picks Either (if t then some b else some a)
+  picks-earlier a b P Q true e =
+      (inr (Q .0), λ c. ⊎-elim (λ h. not-before-trans c a b (P .1 c h) (before-asym b a e)) (Q .1 c))
+  picks-earlier a b P Q false e = (inl (P .0), λ c. ⊎-elim (P .1 c) (λ h. not-before-trans c b a (Q .1 c h) e))
+
+  picks-better : (o q : Option Place) → Picks C o → Picks D q → Picks Either (better o q)
+  unfolding better
+  picks-better none none P Q = λ c. ⊎-elim (P c) (Q c)
+  picks-better none (some b) P Q = (inr (Q .0), λ c. ⊎-elim (λ h. absurd (P c h)) (Q .1 c))
+  picks-better (some a) none P Q = (inl (P .0), λ c. ⊎-elim (P .1 c) (λ h. absurd (Q c h)))
+  picks-better (some a) (some b) P Q = picks-earlier a b P Q (before b a) refl
+
+-- some number below n has property E
+abbrev Below : ℕ → (ℕ → Type 0) → Type 0
+Below n E = (e : ℕ) × (e < n) × E e
+
+below-or-last : (n : ℕ) (E : ℕ → Type 0) → Below n E ⊎ E n → Below (suc n) E
+below-or-last n E (inl h) = (h .0, omega arith, h .2)
+below-or-last n E (inr h) = (n, omega arith, h)
+
+below-suc : (n : ℕ) (E : ℕ → Type 0) → Below (suc n) E → Below n E ⊎ E n
+below-suc n E h = by-equality (ℕ-discrete (h .0) n)
+  where
+    by-equality : Dec (h .0 ≡ n) → Below n E ⊎ E n
+    by-equality (yes e) = inr (subst E e (h .2))
+    by-equality (no d) = inl (h .0, omega arith, h .2)
+
+module _ (C : ℕ → Place → Type 0) (offer : ℕ → Option Place) (P : (e : ℕ) → Picks (C e) (offer e)) where
+  picks-below : (n : ℕ) → Picks (λ b. Below n (λ e. C e b)) (best-below n offer)
+  unfolding best-below
+  picks-below zero = λ b h. omega arith
+  picks-below (suc n) =
+      picks-same _ _ (λ b. below-or-last n (λ e. C e b)) (λ b. below-suc n (λ e. C e b)) (best-below (suc n) offer)
+      (picks-better _ _ (best-below n offer) (offer n) (picks-below n) (P n))
+
+-- a place that has property C where it is counted from edge e of a node of weight w
+abbrev Under : ℕ → ℕ → (Place → Type 0) → Place → Type 0
+Under w e C b = (a : Place) × C a × (b ≡ under w e a)
+
+picks-under : (w e : ℕ) (C : Place → Type 0) → 0 < w → (o : Option Place) → Picks C o → Picks (Under w e C) (Option·map (under w e) o)
+picks-under w e C v none P = λ b h. P (h .0) (h .1)
+picks-under w e C v (some a) P =
+    ((a, P .0, refl), λ b h. rw (h .2, under-keeps-order w e (h .0) a v) (P .1 (h .0) (h .1)))
+
+abbrev place : ℕ → ℕ → Place
+place l r = record { level = l; offset = r }
+
+picks-root : (t : Bool) → Picks (λ b. (b ≡ place 0 0) × (t ≡ true)) (if t then some (place 0 0) else none)
+picks-root true = ((refl, refl), λ b h. rw (h .0) (before-not-self (place 0 0)))
+picks-root false = λ b h. false≢true (h .1)
+
+-- Places counted from an edge of a node
+
+module _ (w e : ℕ) (below : e < w) where
+  pub at-under : (f : ℕ → Tree) (a : Place) → at (under w e a) (node w f) ≡ at a (f e)
+  unfolding at at-digits under
+  at-under f a =
+      ap₂ (λ d q. at-digits (a .level) q (f d)) (digit-low w e (a .offset) below) (digit-high w e (a .offset) below)
+
+  pub step-under : (f : ℕ → Tree) (a : Place) → step (under w e a) (node w f) ≡ w * step a (f e)
+  unfolding step way way-by-digits product under
+  step-under f a =
+      ap₂ (λ d q. w * product (way-by-digits (a .level) q (f d))) (digit-low w e (a .offset) below) (digit-high w e (a .offset) below)
+
+-- Candidates, counted from a root of step m
+
+-- the node at place b of t is a candidate for p, where t's root has step m
+abbrev CandidateFrom : ℕ → ℕ → Tree → Place → Type 0
+CandidateFrom p m t b = candidate p (m * step b t) (at b t) ≡ true
+
+no-candidate-in-nothing : (p m l r : ℕ) → candidate p m (at-digits l r nothing) ≡ false
+unfolding candidate free-class found at-digits
+no-candidate-in-nothing p m zero zero = and-false (divides m p)
+no-candidate-in-nothing p m zero (suc r) = and-false (divides m p)
+no-candidate-in-nothing p m (suc l) r = and-false (divides m p)
+
+no-candidate-in-line : (p m n l r : ℕ) → candidate p m (at-digits l r (line n)) ≡ false
+unfolding candidate free-class found at-digits
+no-candidate-in-line p m n zero zero = and-false (divides m p)
+no-candidate-in-line p m n zero (suc r) = and-false (divides m p)
+no-candidate-in-line p m n (suc l) r = and-false (divides m p)
+
+module _ (p m w : ℕ) (f : ℕ → Tree) where
+  -- the node itself is a candidate, or one stands under its edge e
+  abbrev FromNode : Place → Type 0
+  FromNode =
+      Either (λ b. (b ≡ place 0 0) × (candidate p m (node w f) ≡ true))
+      (λ b. Below w (λ e. Under w e (CandidateFrom p (m * w) (f e)) b))
+
+  node-or-under : 0 < w → (l r : ℕ) → CandidateFrom p m (node w f) (place l r) → FromNode (place l r)
+  unfolding step at way at-digits way-by-digits product under
+  node-or-under v zero zero h = inl (refl, rw mul-one at h)
+  node-or-under v zero (suc r) h = absurd (false≢true (sym (no-candidate-in-nothing p (m * 1) 0 0) ∙ h))
+  node-or-under v (suc l) r h =
+      inr (r % w, mod-lt r v, (place l (r / w), rw mul-assoc h, λ i. place (suc l) (sym (mod-add-div r w) i)))
+
+  from-node : 0 < w → (b : Place) → FromNode b → CandidateFrom p m (node w f) b
+  unfolding step at way at-digits way-by-digits product
+  from-node v b (inl h) = rw (h .0, mul-one) (h .1)
+  from-node v b (inr h) = rw (h .2 .2, at-under w (h .0) (h .1), step-under w (h .0) (h .1), ← mul-assoc) (h .2 .1)
+
+  node-picks :
+      0 < w → ((e : ℕ) → Picks (CandidateFrom p (m * w) (f e)) (best p (m * w) (f e))) →
+      Picks (CandidateFrom p m (node w f)) (best p m (node w f))
+  unfolding best
+  node-picks v P =
+      picks-same FromNode _ (from-node v) (λ b. node-or-under v (b .level) (b .offset)) (best p m (node w f))
+      (picks-better _ _ _ _ (picks-root (candidate p m (node w f)))
+      (picks-below _ _ (λ e. picks-under w e _ v (best p (m * w) (f e)) (P e)) w))
+
+-- The search over a tree
+
+best-picks : (p m : ℕ) (t : Tree) → Proper t → Picks (CandidateFrom p m t) (best p m t)
+unfolding Proper best at
+best-picks p m nothing v = λ b h. false≢true (sym (no-candidate-in-nothing p _ (b .level) (b .offset)) ∙ h)
+best-picks p m (line n) v = λ b h. false≢true (sym (no-candidate-in-line p _ n (b .level) (b .offset)) ∙ h)
+best-picks p m (node w f) v = node-picks p m w f (v .0) (λ e. best-picks p (m * w) (f e) (v .2 e))
+
+chosen-picks : (p : ℕ) (t : Tree) → Proper t → Picks (λ b. candidate-at p t b ≡ true) (chosen p t)
+unfolding chosen candidate-at
+chosen-picks p t v =
+    picks-same (CandidateFrom p 1 t) _ (λ b h. rw one-mul at h) (λ b h. rw one-mul h) (best p 1 t) (best-picks p 1 t v)
+
+-- The search finds the chosen place, and none only where no node is a candidate
+
+pub chosen-is-chosen : (p : ℕ) (t : Tree) (a : Place) → Proper t → chosen p t ≡ some a → IsChosen p t a
+chosen-is-chosen p t a v e =
+    let P = rw e at (chosen-picks p t v) in
+    record { is-candidate = P .0; none-before = P .1 }
+
+pub chosen-none : (p : ℕ) (t : Tree) → Proper t → chosen p t ≡ none → NoCandidate p t
+unfolding NoCandidate
+chosen-none p t v e a = not-eq-not .0 ((rw e at (chosen-picks p t v)) a)
+
+-- One place at most is the chosen one, and the search finds it where there is one
+
+pub chosen-only : (p : ℕ) (t : Tree) (a b : Place) → IsChosen p t a → IsChosen p t b → a ≡ b
+chosen-only p t a b A B = before-total a b (B .none-before a (A .is-candidate)) (A .none-before b (B .is-candidate))
+
+pub no-candidate-chosen-none : (p : ℕ) (t : Tree) → Proper t → NoCandidate p t → chosen p t ≡ none
+unfolding NoCandidate
+no-candidate-chosen-none p t v h = by-outcome (chosen p t) refl
+  where
+    by-outcome : (o : Option Place) → chosen p t ≡ o → o ≡ none
+    by-outcome none e = refl
+    by-outcome (some a) e = absurd (false≢true (sym (h a) ∙ chosen-is-chosen p t a v e .is-candidate))
+
+pub is-chosen-chosen : (p : ℕ) (t : Tree) (a : Place) → Proper t → IsChosen p t a → chosen p t ≡ some a
+unfolding NoCandidate
+is-chosen-chosen p t a v A = by-outcome (chosen p t) refl
+  where
+    by-outcome : (o : Option Place) → chosen p t ≡ o → o ≡ some a
+    by-outcome none e = absurd (false≢true (sym (chosen-none p t v e a) ∙ A .is-candidate))
+    by-outcome (some b) e = ap some (chosen-only p t b a (chosen-is-chosen p t b v e) A)
