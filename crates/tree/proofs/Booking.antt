@@ -76,11 +76,11 @@ stands-newcomer K L q p s h =
 
 -- The booking
 
-module _ (L d q w : ℕ) (f : ℕ → Tree) (i : ℕ) (room : Room d q w f i) where
-  -- the node with the line booked into class i
-  abbrev with-line : Tree
-  with-line = node d (put i (newcomer L q) (split d w f))
+-- the edges of the node, split where need be, with the line booked into class i
+abbrev pub booked-edges : ℕ → ℕ → ℕ → ℕ → (ℕ → Tree) → ℕ → ℕ → Tree
+booked-edges L d q w f i = put i (newcomer L q) (split d w f)
 
+module _ (L d q w : ℕ) (f : ℕ → Tree) (i : ℕ) (room : Room d q w f i) where
   -- a line that stood in the node is not in the free class
   not-in-class : (K p u : ℕ) (h : UnderEdge w p u (λ e p s. Stands K (f e) p s)) → h .edge % d ≡ i → ⊥
   not-in-class K p u h class =
@@ -88,7 +88,7 @@ module _ (L d q w : ℕ) (f : ℕ → Tree) (i : ℕ) (room : Room d q w f i) wh
       (sym (stands-present K (f (h .edge)) (h .period) (h .start) (h .stands))
       ∙ free-absent d w f i (h .edge) (room .class-free) (h .edge-below) class)
 
-  pub stands-with-line : (K p u : ℕ) → Stands K (node w f) p u → Stands K with-line p u
+  pub stands-with-line : (K p u : ℕ) → Stands K (node w f) p u → Stands K (node d (booked-edges L d q w f i)) p u
   unfolding Stands
   stands-with-line K p u h =
       let x = class-in-split K d w f (room .weight-positive) (room .divides-weight) p u (room .divisor-positive) h in
@@ -106,7 +106,7 @@ module _ (L d q w : ℕ) (f : ℕ → Tree) (i : ℕ) (room : Room d q w f i) wh
         other-edge = not-in-class K p u h;
       })
 
-  pub new-line-stands : Stands L with-line (d * q) i
+  pub new-line-stands : Stands L (node d (booked-edges L d q w f i)) (d * q) i
   unfolding Stands
   new-line-stands =
       stands-put-same L d i (newcomer L q) (split d w f) (d * q) i (room .class-below) (record {
@@ -118,7 +118,7 @@ module _ (L d q w : ℕ) (f : ℕ → Tree) (i : ℕ) (room : Room d q w f i) wh
       })
 
   -- what stands in the node afterwards stood in it, in the class of that edge, or is the new line
-  pub with-line-stands : (K p u : ℕ) → Stands K with-line p u → Stands K (node w f) p u ⊎ ((K ≡ L) × (p ≡ d * q) × (u ≡ i))
+  pub with-line-stands : (K p u : ℕ) → Stands K (node d (booked-edges L d q w f i)) p u → Stands K (node w f) p u ⊎ ((K ≡ L) × (p ≡ d * q) × (u ≡ i))
   unfolding Stands
   with-line-stands K p u h = go (put-stands K d i (newcomer L q) (split d w f) p u h)
     where
@@ -222,11 +222,8 @@ module _ (d w : ℕ) (f : ℕ → Tree) (divides : d * (w / d) ≡ w) where
       ]
 
 module _ (L d q w : ℕ) (f : ℕ → Tree) (i : ℕ) (room : Room d q w f i) where
-  abbrev booked-edges : ℕ → Tree
-  booked-edges = put i (newcomer L q) (split d w f)
-
   -- a line under edge a is the new one, or was under an edge of class a
-  under-from : (K a : ℕ) → a < d → is-open K (booked-edges a) ≡ true →
+  under-from : (K a : ℕ) → a < d → is-open K (booked-edges L d q w f i a) ≡ true →
       ((K ≡ L) × (a ≡ i)) ⊎ ((e : ℕ) × (e < w) × (is-open K (f e) ≡ true) × (e % d ≡ a))
   under-from K a below open-there =
       elim (ℕ-discrete a i) [
@@ -246,7 +243,7 @@ module _ (L d q w : ℕ) (f : ℕ → Tree) (i : ℕ) (room : Room d q w f i) wh
         let x = stands-under L w f e _ _ below (open-stands L (f e) open-there) in
         true≢false (sym (stands-open L (node w f) _ _ x) ∙ new)
 
-    booked-line-once : (K a b : ℕ) → a < d → b < d → is-open K (booked-edges a) ≡ true → is-open K (booked-edges b) ≡ true → a ≡ b
+    booked-line-once : (K a b : ℕ) → a < d → b < d → is-open K (booked-edges L d q w f i a) ≡ true → is-open K (booked-edges L d q w f i b) ≡ true → a ≡ b
     booked-line-once K a b a-below b-below open-a open-b = go (under-from K a a-below open-a) (under-from K b b-below open-b)
       where
         go : ((K ≡ L) × (a ≡ i)) ⊎ ((e : ℕ) × (e < w) × (is-open K (f e) ≡ true) × (e % d ≡ a)) →
@@ -257,17 +254,17 @@ module _ (L d q w : ℕ) (f : ℕ → Tree) (i : ℕ) (room : Room d q w f i) wh
         go (inr x) (inr y) =
             sym (x .3) ∙ ap (λ (e : ℕ). e % d) (edges .line-once K (x .0) (y .0) (x .2) (y .2)) ∙ y .3
 
-    beyond-nothing : (e : ℕ) → d ≤ e → booked-edges e ≡ nothing
+    beyond-nothing : (e : ℕ) → d ≤ e → booked-edges L d q w f i e ≡ nothing
     beyond-nothing e beyond =
         let below = room .class-below in
         put-other i e (newcomer L q) (split d w f) (λ same. omega arith)
         ∙ split-beyond d w f (room .divides-weight) e (room .divisor-positive) edges beyond
 
-    open-below : (K e : ℕ) → is-open K (booked-edges e) ≡ true → e < d
+    open-below : (K e : ℕ) → is-open K (booked-edges L d q w f i e) ≡ true → e < d
     open-below K e open-there =
-        elim (decLt e d) [ yes below ↦ below | no beyond ↦ absurd (nothing-open K (booked-edges e) (beyond-nothing e (omega arith)) open-there) ]
+        elim (decLt e d) [ yes below ↦ below | no beyond ↦ absurd (nothing-open K (booked-edges L d q w f i e) (beyond-nothing e (omega arith)) open-there) ]
 
-    booked-has-edges : Edges d booked-edges
+    booked-has-edges : Edges d (booked-edges L d q w f i)
     booked-has-edges =
         record {
           below-weight = beyond-nothing;
@@ -278,7 +275,7 @@ module _ (L d q w : ℕ) (f : ℕ → Tree) (i : ℕ) (room : Room d q w f i) wh
         }
 
   -- the new line's period, from the root on, is m·d·q
-  pub with-line-legal : (m : ℕ) → L ≤ 63 → m * (d * q) ≤ 4095 → is-open L (node w f) ≡ false → LegalUnder m (node w f) → LegalUnder m (node d booked-edges)
+  pub with-line-legal : (m : ℕ) → L ≤ 63 → m * (d * q) ≤ 4095 → is-open L (node w f) ≡ false → LegalUnder m (node w f) → LegalUnder m (node d (booked-edges L d q w f i))
   unfolding LegalUnder
   with-line-legal m number period new legal = (
     divisor-at-least-2 d q w f i room (legal .1),
