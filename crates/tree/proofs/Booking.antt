@@ -20,8 +20,8 @@ use Rattle.tree.proofs.Put.{put-same, put-other, put-each, InPut, NotIn
 use Rattle.tree.proofs.Searching.{some-below-true, some-below-at}
 use Rattle.tree.proofs.Proper.{nothing-open, one-edge-edges}
 use Rattle.tree.proofs.Classes.{free-absent, taken-present, beyond-free}
-use Rattle.tree.proofs.UnderEdge.{stands-under, stands-present}
-use Rattle.tree.proofs.Standing.{stands-open, open-stands}
+use Rattle.tree.proofs.UnderEdge.{stands-present}
+use Rattle.tree.proofs.Standing.{stands-open, open-stands, not-open-below}
 use Rattle.tree.proofs.Split.{group-nothing, group-node, split-groups, split-whole, divisor-at-most, quotient-below, split-in-class, class-in-split}
 
 -- what a booking of line L with period d·q into class i of a node of weight w rests on
@@ -32,6 +32,33 @@ pub record Room (d q w : ℕ) (f : ℕ → Tree) (i : ℕ) : Type 0 where
   pub divides-weight : d * (w / d) ≡ w
   pub class-below : i < d
   pub class-free : free d w f i ≡ true
+
+-- A line under the one edge of a node
+
+pub one-edge-stands : (L w : ℕ) → 0 < w → Stands L (one-edge w (line L)) w 0
+unfolding Stands one-edge
+one-edge-stands L w positive =
+    stands-put-same L w 0 (line L) (λ e. nothing) w 0 (record {
+      edge-below = positive;
+      period = 1;
+      start = 0;
+      stands = (refl, refl, refl);
+      period-is = sym (mul-one w);
+      start-is = simp mul-zero;
+    })
+
+pub stands-one-edge : (K L w q u : ℕ) → Stands K (one-edge w (line L)) q u → (K ≡ L) × (q ≡ w) × (u ≡ 0)
+unfolding Stands one-edge
+stands-one-edge K L w q u h = go (put-stands K w 0 (line L) (λ e. nothing) q u h)
+  where
+    go : InPut K w 0 (line L) q u ⊎ NotInPut K w 0 (λ e. nothing) q u → (K ≡ L) × (q ≡ w) × (u ≡ 0)
+    go (inl x) =
+        let at-line = x .stands in (
+          sym (at-line .0),
+          x .period-is ∙ ap (λ (n : ℕ). w * n) (at-line .1) ∙ mul-one w,
+          x .start-is ∙ ap (λ (n : ℕ). 0 + w * n) (at-line .2) ∙ simp mul-zero,
+        )
+    go (inr x) = absurd (x .in-node .stands)
 
 -- The newcomer
 
@@ -44,35 +71,20 @@ unfolding newcomer
 newcomer-node L q h = rw (ne-eqb q 1 h)
 
 pub newcomer-stands : (L q : ℕ) → 0 < q → Stands L (newcomer L q) q 0
-unfolding Stands one-edge
+unfolding Stands
 newcomer-stands L q positive =
     elim (ℕ-discrete q 1) [
       | yes one ↦ rw (newcomer-line L q one) (refl, one, refl)
-      | no more ↦ rw (newcomer-node L q more) (stands-put-same L q 0 (line L) (λ e. nothing) q 0 positive (record {
-        period = 1;
-        start = 0;
-        stands = (refl, refl, refl);
-        period-is = sym (mul-one q);
-        start-is = simp (mul-zero);
-      }))
+      | no more ↦ rw (newcomer-node L q more) (one-edge-stands L q positive)
     ]
 
 pub stands-newcomer : (K L q p s : ℕ) → Stands K (newcomer L q) p s → (K ≡ L) × (p ≡ q) × (s ≡ 0)
-unfolding Stands one-edge
+unfolding Stands
 stands-newcomer K L q p s h =
     elim (ℕ-discrete q 1) [
       | yes one ↦ (let x = rw (newcomer-line L q one) at h in (sym (x .0), x .1 ∙ sym one, x .2))
-      | no more ↦ below (put-stands K q 0 (line L) (λ e. nothing) p s (rw (newcomer-node L q more) at h))
+      | no more ↦ stands-one-edge K L q p s (rw (newcomer-node L q more) at h)
     ]
-  where
-    below : InPut K q 0 (line L) p s ⊎ NotInPut K q 0 (λ e. nothing) p s → (K ≡ L) × (p ≡ q) × (s ≡ 0)
-    below (inl x) =
-        let at-line = x .stands in (
-          sym (at-line .0),
-          x .period-is ∙ ap (λ (n : ℕ). q * n) (at-line .1) ∙ mul-one q,
-          x .start-is ∙ ap (λ (n : ℕ). 0 + q * n) (at-line .2) ∙ simp (mul-zero),
-        )
-    below (inr x) = absurd (x .in-node .stands)
 
 -- The booking
 
@@ -98,7 +110,7 @@ module _ (L d q w : ℕ) (f : ℕ → Tree) (i : ℕ) (room : Room d q w f i) wh
               edge = h .edge % d;
               period = x .period;
               start = x .start;
-              edge-below = mod-lt (h .edge) (room .divisor-positive);
+              edge-below = x .edge-below;
               stands = x .stands;
               period-is = x .period-is;
               start-is = x .start-is;
@@ -109,7 +121,8 @@ module _ (L d q w : ℕ) (f : ℕ → Tree) (i : ℕ) (room : Room d q w f i) wh
   pub new-line-stands : Stands L (node d (booked-edges L d q w f i)) (d * q) i
   unfolding Stands
   new-line-stands =
-      stands-put-same L d i (newcomer L q) (split d w f) (d * q) i (room .class-below) (record {
+      stands-put-same L d i (newcomer L q) (split d w f) (d * q) i (record {
+        edge-below = room .class-below;
         period = q;
         start = 0;
         stands = newcomer-stands L q (room .quotient-positive);
@@ -138,7 +151,7 @@ module _ (L d q w : ℕ) (f : ℕ → Tree) (i : ℕ) (room : Room d q w f i) wh
 -- The booking is legal
 
 -- a class is free although an edge is present: there is more than one class
-divisor-at-least-2 : (d q w : ℕ) (f : ℕ → Tree) (i : ℕ) → Room d q w f i → Edges w f → 2 ≤ d
+pub divisor-at-least-2 : (d q w : ℕ) (f : ℕ → Tree) (i : ℕ) → Room d q w f i → Edges w f → 2 ≤ d
 divisor-at-least-2 d q w f i room edges =
     let x = some-below-true w _ (edges .not-empty) in
     elim (decLt 1 d) [
@@ -238,19 +251,14 @@ module _ (L d q w : ℕ) (f : ℕ → Tree) (i : ℕ) (room : Room d q w f i) wh
       ]
 
   module _ (new : is-open L (node w f) ≡ false) (edges : Edges w f) where
-    new-under-no-edge : (e : ℕ) → e < w → is-open L (f e) ≡ true → ⊥
-    new-under-no-edge e below open-there =
-        let x = stands-under L w f e _ _ below (open-stands L (f e) open-there) in
-        true≢false (sym (stands-open L (node w f) _ _ x) ∙ new)
-
     booked-line-once : (K a b : ℕ) → a < d → b < d → is-open K (booked-edges L d q w f i a) ≡ true → is-open K (booked-edges L d q w f i b) ≡ true → a ≡ b
     booked-line-once K a b a-below b-below open-a open-b = go (under-from K a a-below open-a) (under-from K b b-below open-b)
       where
         go : ((K ≡ L) × (a ≡ i)) ⊎ ((e : ℕ) × (e < w) × (is-open K (f e) ≡ true) × (e % d ≡ a)) →
             ((K ≡ L) × (b ≡ i)) ⊎ ((e : ℕ) × (e < w) × (is-open K (f e) ≡ true) × (e % d ≡ b)) → a ≡ b
         go (inl x) (inl y) = x .1 ∙ sym (y .1)
-        go (inl x) (inr y) = absurd (new-under-no-edge (y .0) (y .1) (rw (x .0) at (y .2)))
-        go (inr x) (inl y) = absurd (new-under-no-edge (x .0) (x .1) (rw (y .0) at (x .2)))
+        go (inl x) (inr y) = absurd (not-open-below L w f edges new (y .0) (rw (x .0) at (y .2)))
+        go (inr x) (inl y) = absurd (not-open-below L w f edges new (x .0) (rw (y .0) at (x .2)))
         go (inr x) (inr y) =
             sym (x .3) ∙ ap (λ (e : ℕ). e % d) (edges .line-once K (x .0) (y .0) (x .2) (y .2)) ∙ y .3
 

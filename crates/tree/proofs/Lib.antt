@@ -16,5 +16,10 @@ pub mod ChosenCandidate
 pub mod Classes
 pub mod Split
 pub mod Booking
+pub mod BookingAt
+pub mod Opening
 -- Closing
 pub mod Closing
+-- How large a tree can be
+pub mod Totals
+pub mod Depth

@@ -30,6 +30,7 @@ put-each P i t f here others e =
 
 -- line K stands in t, which was put under edge i of a node of weight w
 pub record InPut (K w i : ℕ) (t : Tree) (q u : ℕ) : Type 0 where
+  pub edge-below : i < w
   pub period : ℕ
   pub start : ℕ
   pub stands : Stands K t period start
@@ -47,6 +48,7 @@ module _ (K w i : ℕ) (t : Tree) (f : ℕ → Tree) (q u : ℕ) where
   put-stands h =
       elim (ℕ-discrete (h .edge) i) [
         | yes same ↦ inl (record {
+          edge-below = subst (λ (e : ℕ). e < w) same (h .edge-below);
           period = h .period;
           start = h .start;
           stands = rw (put-same i (h .edge) t f same) at (h .stands);
@@ -59,14 +61,14 @@ module _ (K w i : ℕ) (t : Tree) (f : ℕ → Tree) (q u : ℕ) where
         })
       ]
 
-  pub stands-put-same : i < w → InPut K w i t q u → Stands K (node w (put i t f)) q u
+  pub stands-put-same : InPut K w i t q u → Stands K (node w (put i t f)) q u
   unfolding Stands
-  stands-put-same below h =
+  stands-put-same h =
       record {
         edge = i;
         period = h .period;
         start = h .start;
-        edge-below = below;
+        edge-below = h .edge-below;
         stands = rw (put-same i i t f refl) (h .stands);
         period-is = h .period-is;
         start-is = h .start-is;
@@ -77,3 +79,13 @@ module _ (K w i : ℕ) (t : Tree) (f : ℕ → Tree) (q u : ℕ) where
   stands-put-other h =
       let x = h .in-node in
       same-edge x (rw (put-other i (x .edge) t f (h .other-edge)) (x .stands))
+
+  -- where t holds what stood under edge i, the node holds what stood in it
+  pub stands-put-keeps : ((p s : ℕ) → Stands K (f i) p s → Stands K t p s) → Stands K (node w f) q u → Stands K (node w (put i t f)) q u
+  unfolding Stands
+  stands-put-keeps keeps h =
+      same-edge h
+      (elim (ℕ-discrete (h .edge) i) [
+        | yes same ↦ rw (put-same i (h .edge) t f same) (keeps (h .period) (h .start) (rw same at (h .stands)))
+        | no other ↦ rw (put-other i (h .edge) t f other) (h .stands)
+      ])

@@ -119,6 +119,7 @@ module _ (K d w : ℕ) (f : ℕ → Tree) (weight-positive : 0 < w) (divides : d
         let here = stands-present K (f e) (h .period) (h .start) (h .stands) in
         let again : e % d + d * (e / d) ≡ e = digits-of e d in
         record {
+          edge-below = mod-lt e positive;
           period = w / d * h .period;
           start = e / d + w / d * h .start;
           stands =
@@ -148,6 +149,7 @@ module _ (K d w : ℕ) (f : ℕ → Tree) (weight-positive : 0 < w) (divides : d
               let whole : d ≡ w = le-antisymm (divisor-at-most d w weight-positive divides) (omega arith) in
               let same : e % d ≡ e = mod-eq-of-lt (subst (λ (n : ℕ). e < n) (sym whole) (h .edge-below)) in
               record {
+                edge-below = mod-lt e positive;
                 period = h .period;
                 start = h .start;
                 stands = rw (split-whole d w f (omega arith), same) (h .stands);
@@ -173,7 +175,7 @@ module _ (K d w : ℕ) (f : ℕ → Tree) (weight-positive : 0 < w) (divides : d
               edge = h .edge % d;
               period = x .period;
               start = x .start;
-              edge-below = mod-lt (h .edge) positive;
+              edge-below = x .edge-below;
               stands = x .stands;
               period-is = x .period-is;
               start-is = x .start-is;

@@ -2,10 +2,11 @@
 -- Assumes nothing.
 use Prim.Native.Nat.{ℕ, zero, suc, _+_, _*_, _<_, _≤_}
 use native.Mathlib.Omega.{arith}
+use native.Mathlib.Decide.{decLt}
 use native.Mathlib.Nat.{mul-one, one-mul, mul-add, mul-assoc, mul-comm, add-zero, mul-zero}
 use mathlib.Core.Path.{_≡_, refl, sym, _∙_, ap, ap₂, subst, subst₂}
 use mathlib.Core.Logic.{_⊎_, inl, inr}
-use mathlib.Core.Bool.{Bool, true, false}
+use mathlib.Core.Bool.{Bool, true, false, true≢false}
 use mathlib.Core.List.{List, [], _∷_}
 use mathlib.Core.Option.{Option, none, some, Option·map, Option·getD, Option·some-ne-none, Option·none-ne-some}
 use lib.Dec.{eqb}
@@ -14,7 +15,9 @@ use Rattle.tree.specs.declared.Row.{Row}
 use Rattle.tree.specs.Search.{if_then_else_, found, first}
 use Rattle.tree.specs.Tree.{Tree, nothing, line, node, row, product, sum-from, sum, path, is-open, path-of, period-of, start-of}
 use Rattle.tree.specs.Standing.{UnderEdge, Stands}
-use Rattle.tree.proofs.Proper.{Proper}
+use Rattle.tree.specs.Shape.{Edges}
+use Rattle.tree.proofs.UnderEdge.{stands-under}
+use Rattle.tree.proofs.Proper.{Proper, nothing-open}
 use Rattle.tree.proofs.Digits.{digits-below}
 use Rattle.tree.proofs.Searching.{FirstAt, first-none, first-some, found-some}
 
@@ -34,7 +37,7 @@ sum-row r rs = rw (sum-from-factor (1 * r .weight) rs) (simp (one-mul, mul-one))
 
 -- A path and where it leads
 
-path-of-line : (L n : ℕ) (rs : List Row) → (if eqb n L then some [] else none) ≡ some rs → (n ≡ L) × (rs ≡ [])
+pub path-of-line : (L n : ℕ) (rs : List Row) → (if eqb n L then some [] else none) ≡ some rs → (n ≡ L) × (rs ≡ [])
 path-of-line L n rs h = go (eqb n L) refl h
   where
     go : (b : Bool) → eqb n L ≡ b → (if b then some [] else none) ≡ some rs → (n ≡ L) × (rs ≡ [])
@@ -112,6 +115,16 @@ stands-open L t q u h = go (path L t) refl
     go : (o : Option (List Row)) → path L t ≡ o → found (path L t) ≡ true
     go none e = absurd (path-found L t q u h e)
     go (some rs) e = ap found e
+
+-- a line that is open under an edge is open in the node
+pub not-open-below : (L w : ℕ) (f : ℕ → Tree) → Edges w f → is-open L (node w f) ≡ false → (e : ℕ) → is-open L (f e) ≡ true → ⊥
+not-open-below L w f edges new e open-there =
+    elim (decLt e w) [
+      | yes below ↦
+          let x = stands-under L w f e _ _ below (open-stands L (f e) open-there) in
+          true≢false (sym (stands-open L (node w f) _ _ x) ∙ new)
+      | no beyond ↦ nothing-open L (f e) (edges .below-weight e (omega arith)) open-there
+    ]
 
 -- One place for each line
 

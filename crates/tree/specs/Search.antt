@@ -1,6 +1,6 @@
--- Choices by a test, and searches below a bound, from 0 upward.
+-- Choices by a test, and searches and sums below a bound, from 0 upward.
 -- Assumes nothing.
-use Prim.Native.Nat.{ℕ, zero, suc}
+use Prim.Native.Nat.{ℕ, zero, suc, _+_}
 use mathlib.Core.Bool.{Bool, true, false, not}
 use mathlib.Core.Option.{Option, none, some}
 
@@ -35,3 +35,8 @@ some-below n test = found (smallest n test)
 -- every number below n passes the test
 unfoldable pub all-below : ℕ → (ℕ → Bool) → Bool
 all-below n test = not (some-below n (λ i. not (test i)))
+
+-- the sum of what each number below n counts
+unfoldable pub total-below : ℕ → (ℕ → ℕ) → ℕ
+total-below zero count = 0
+total-below (suc n) count = total-below n count + count n

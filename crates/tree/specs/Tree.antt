@@ -6,7 +6,7 @@ use mathlib.Core.List.{List, [], _∷_}
 use mathlib.Core.Option.{Option, none, some, Option·map, Option·getD}
 use lib.Dec.{eqb}
 use Rattle.tree.specs.declared.Row.{Row}
-use Rattle.tree.specs.Search.{if_then_else_, found, first}
+use Rattle.tree.specs.Search.{if_then_else_, found, first, total-below}
 
 -- (The tree, 1, 4, 5) Definition 6.1: a node has a weight and edges, and under an edge stands a node or a line.
 -- `f e` is what stands under edge e of `node w f`, and is `nothing` where that edge is absent. The empty plan is `nothing` too.
@@ -90,3 +90,9 @@ way a t = way-by-digits (a .level) (a .offset) t
 -- (The tree, 6) The step m of the node at a place.
 unfoldable pub step : Place → Tree → ℕ
 step a t = product (way a t)
+
+-- (Refusals, the last sentence) The number of nodes of a tree.
+unfoldable pub nodes : Tree → ℕ
+nodes nothing = 0
+nodes (line n) = 0
+nodes (node w f) = 1 + total-below w (λ e. nodes (f e))

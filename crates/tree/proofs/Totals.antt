@@ -1,0 +1,54 @@
+-- Laws of sums below a bound (specs/Search.antt).
+-- Assumes nothing.
+use Prim.Native.Nat.{ℕ, zero, suc, _+_, _*_, _<_, _≤_}
+use native.Mathlib.Omega.{arith}
+use native.Mathlib.Nat.{suc-mul}
+use native.Mathlib.Decide.{ℕ-discrete}
+use mathlib.Core.Path.{_≡_, refl, ap}
+use mathlib.Core.Logic.{inl, inr}
+use Rattle.tree.specs.Search.{total-below}
+use Rattle.tree.proofs.Searching.{last-or-below}
+
+-- n numbers that count at most b each
+pub total-at-most : (n : ℕ) (count : ℕ → ℕ) (b : ℕ) → ((i : ℕ) → i < n → count i ≤ b) → total-below n count ≤ n * b
+unfolding total-below
+total-at-most zero count b h = omega arith
+total-at-most (suc n) count b h =
+    omega (arith, total-at-most n count b (λ i k. h i (omega arith)), h n (omega arith), suc-mul n b)
+
+pub total-monotone : (n : ℕ) (few many : ℕ → ℕ) → ((i : ℕ) → few i ≤ many i) → total-below n few ≤ total-below n many
+unfolding total-below
+total-monotone zero few many h = omega arith
+total-monotone (suc n) few many h = omega (arith, total-monotone n few many h, h n)
+
+-- where nowhere more is counted, and less at k
+pub total-less : (n : ℕ) (few many : ℕ → ℕ) → ((i : ℕ) → few i ≤ many i) → (k : ℕ) → k < n → few k < many k → total-below n few < total-below n many
+unfolding total-below
+total-less zero few many h k below less = absurd (omega arith)
+total-less (suc n) few many h k below less =
+    elim (last-or-below k n below) [
+      | inl e ↦ omega (arith, total-monotone n few many h, rw e at less)
+      | inr l ↦ omega (arith, total-less n few many h k l less, h n)
+    ]
+
+-- where only the number k counts anything
+pub total-only : (n : ℕ) (count : ℕ → ℕ) (k : ℕ) → ((i : ℕ) → (i ≡ k → ⊥) → count i ≡ 0) → total-below n count ≤ count k
+unfolding total-below
+total-only zero count k only = omega arith
+total-only (suc n) count k only =
+    elim (ℕ-discrete n k) [
+      | yes e ↦ omega (arith, total-at-most n count 0 (λ i l. omega (arith, only i (λ z. omega arith))), ap count e)
+      | no z ↦ omega (arith, total-only n count k only, only n z)
+    ]
+
+total-plus : (n : ℕ) (a b : ℕ → ℕ) → total-below n (λ i. a i + b i) ≡ total-below n a + total-below n b
+unfolding total-below
+total-plus zero a b = refl
+total-plus (suc n) a b = omega (arith, total-plus n a b)
+
+-- the two sums of a table are exchanged
+pub total-exchange : (n m : ℕ) (count : ℕ → ℕ → ℕ) → total-below n (λ i. total-below m (count i)) ≡ total-below m (λ k. total-below n (λ i. count i k))
+unfolding total-below
+total-exchange zero m count = omega (arith, total-at-most m (λ k. 0) 0 (λ i l. omega arith))
+total-exchange (suc n) m count =
+    omega (arith, total-exchange n m count, total-plus m (λ k. total-below n (λ i. count i k)) (count n))
