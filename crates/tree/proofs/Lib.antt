@@ -23,3 +23,8 @@ pub mod Closing
 -- How large a tree can be
 pub mod Totals
 pub mod Depth
+-- Demand 3
+pub mod Numbering
+pub mod Checks
+pub mod Agreement
+pub mod Demand3

@@ -11,5 +11,6 @@ pub mod Asking
 pub mod Refusals
 pub mod Calls
 pub mod Lists
+pub mod Demand3
 pub mod Record
 pub mod Cases

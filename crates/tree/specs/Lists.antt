@@ -39,6 +39,11 @@ pub record Entry : Type 0 where
   pub call : Call
   pub answer : Answer
 
+-- the calls alone
+unfoldable pub calls-of : List Entry → List Call
+calls-of [] = []
+calls-of (x ∷ xs) = x .call ∷ calls-of xs
+
 -- the ledger after a list, from the ledger before it
 unfoldable pub ledger-from : Ledger → List Entry → Ledger
 ledger-from ledger [] = ledger

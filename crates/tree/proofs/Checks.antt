@@ -1,0 +1,78 @@
+-- The checks of open and close (specs/Refusals.antt): what a call that passes them may count on, and what a refusal says.
+-- Assumes nothing.
+use Prim.Native.Nat.{ℕ, _<_, _≤_}
+use native.Mathlib.Omega.{arith}
+use mathlib.Core.Path.{_≡_, refl, sym, _∙_, ap}
+use mathlib.Core.Bool.{Bool, true, false, not, _||_, true≢false}
+use mathlib.Core.List.{List, [], _∷_, _++_}
+use mathlib.Core.Option.{Option, none, some, Option·some-ne-none}
+use lib.Dec.{eqb, ltb}
+use borrow.Author.Tests.{eqb-false, ltb-false, le-ltb}
+use Rattle.tree.specs.Search.{if_then_else_, or-else}
+use Rattle.tree.specs.Tree.{Tree, is-open}
+use Rattle.tree.specs.Shape.{Legal}
+use Rattle.tree.specs.Refusals.{Check, refuse, first-refusal, line-above-63, period-out-of-range, no-room, earlier-checks, open-refusal, line-refusal}
+use Rattle.tree.proofs.Opening.{MayOpen}
+
+-- a check that comes last decides where none before it refuses
+first-refusal-last : (checks : List Check) (n : ℕ) (strikes : Bool) →
+    first-refusal (checks ++ (refuse n strikes ∷ [])) ≡ or-else (first-refusal checks) (if strikes then some n else none)
+unfolding first-refusal or-else
+first-refusal-last [] n strikes = refl
+first-refusal-last (refuse m true ∷ checks) n strikes = refl
+first-refusal-last (refuse m false ∷ checks) n strikes = first-refusal-last checks n strikes
+
+-- the earlier checks of an open, on a tree
+abbrev pub earlier-refusal : ℕ → ℕ → Tree → Option ℕ
+earlier-refusal L p t = first-refusal (earlier-checks L p (is-open L t))
+
+pub refused-earlier : (L p : ℕ) (t : Tree) (n : ℕ) → earlier-refusal L p t ≡ some n → open-refusal L p t ≡ some n
+unfolding open-refusal or-else
+refused-earlier L p t n h = rw (first-refusal-last (earlier-checks L p (is-open L t)) 5 (no-room p t), h)
+
+pub refused-by-5 : (L p : ℕ) (t : Tree) → earlier-refusal L p t ≡ none → open-refusal L p t ≡ (if no-room p t then some 5 else none)
+unfolding open-refusal or-else
+refused-by-5 L p t h = rw (first-refusal-last (earlier-checks L p (is-open L t)) 5 (no-room p t), h)
+
+-- a check that has not refused did not strike
+none-strikes : (b : Bool) (n : ℕ) (o : Option ℕ) → (if b then some n else o) ≡ none → (b ≡ false) × (o ≡ none)
+none-strikes true n o h = absurd (Option·some-ne-none n h)
+none-strikes false n o h = (refl, h)
+
+neither : (a b : Bool) → (a || b) ≡ false → (a ≡ false) × (b ≡ false)
+neither false b h = (refl, h)
+neither true b h = absurd (true≢false h)
+
+pub open-may : (L p : ℕ) (t : Tree) → Legal t → open-refusal L p t ≡ none → MayOpen L p t
+unfolding open-refusal first-refusal earlier-checks line-above-63 period-out-of-range
+open-may L p t legal h =
+    let one = none-strikes (ltb 63 L) 1 _ h in
+    let two = none-strikes (eqb p 0 || ltb 4095 p) 2 _ (one .1) in
+    let three = none-strikes (is-open L t) 3 _ (two .1) in
+    let five = none-strikes (no-room p t) 5 _ (three .1) in
+    let range = neither (eqb p 0) (ltb 4095 p) (two .0) in
+    let not-zero = eqb-false p 0 (range .0) in
+    record {
+      legal = legal;
+      number-in-range = ltb-false 63 L (one .0);
+      period-positive = omega arith;
+      period-in-range = ltb-false 4095 p (range .1);
+      not-open = three .0;
+      has-room = five .0;
+    }
+
+pub close-allowed : (L : ℕ) (t : Tree) → L ≤ 63 → is-open L t ≡ true → line-refusal L t ≡ none
+unfolding line-refusal first-refusal line-above-63
+close-allowed L t number h = rw (le-ltb 63 L number, h)
+
+abbrev one-or-four : Bool → ℕ
+one-or-four above = if above then 1 else 4
+
+first-of-two : (above is-there : Bool) → is-there ≡ false →
+    (if above then some 1 else (if not is-there then some 4 else none)) ≡ some (one-or-four above)
+first-of-two true is-there h = refl
+first-of-two false is-there h = rw h
+
+pub close-refused : (L : ℕ) (t : Tree) → is-open L t ≡ false → line-refusal L t ≡ some (if line-above-63 L then 1 else 4)
+unfolding line-refusal first-refusal
+close-refused L t h = first-of-two (line-above-63 L) (is-open L t) h
