@@ -1,26 +1,23 @@
 -- Ledger and reference tree agree, call after call (specs/Lists.antt).
 -- Assumes nothing.
-use Prim.Native.Nat.{ℕ, _<_, _≤_}
-use native.Mathlib.Omega.{arith}
+use Prim.Native.Nat.{ℕ}
 use native.Mathlib.Decide.{ℕ-discrete}
 use mathlib.Core.Path.{_≡_, refl, sym, _∙_, ap, subst}
 use mathlib.Core.Logic.{_⊎_, inl, inr}
 use mathlib.Core.Bool.{Bool, true, false, true≢false}
 use mathlib.Core.List.{List, [], _∷_, _++_, nil≢cons, head-eq-of-cons-eq, tail-eq-of-cons-eq}
 use mathlib.Core.Option.{Option, none, some, Option·none-ne-some, Option·some-injective}
-use lib.Dec.{eqb}
 use borrow.Author.Tests.{eq-eqb, ne-eqb}
-use Rattle.tree.specs.Search.{if_then_else_, found}
+use Rattle.tree.specs.Search.{found}
 use Rattle.tree.specs.Tree.{Tree, nothing, is-open, period-of, start-of}
 use Rattle.tree.specs.Standing.{Stands}
 use Rattle.tree.specs.Shape.{Legal}
 use Rattle.tree.specs.Opening.{start-given, opened}
 use Rattle.tree.specs.Closing.{closed}
-use Rattle.tree.specs.Refusals.{open-refusal, line-refusal}
-use Rattle.tree.specs.Calls.{Call, open-line, close-line, Answer, booked, done, refused, refusal, reply, carried-out, answer-unless, tree-unless, answer, after}
-use Rattle.tree.specs.Lists.{Booking, Ledger, all-closed, with-line, enter, Entry, calls-of, ledger-from, ledger-of, reference-from, reference, answered-from}
-use Rattle.tree.proofs.Proper.{legal-proper}
-use Rattle.tree.proofs.Standing.{stands-open, open-stands, stands-once}
+use Rattle.tree.specs.Refusals.{open-refusal}
+use Rattle.tree.specs.Calls.{Call, open-line, close-line, refusal, reply, carried-out, answer-unless, tree-unless, answer, after}
+use Rattle.tree.specs.Lists.{Booking, Ledger, all-closed, with-line, enter, Entry, calls-of, ledger-from, reference-from, answered-from}
+use Rattle.tree.proofs.Standing.{stands-open, open-stands}
 use Rattle.tree.proofs.Opening.{MayOpen, opened-legal, opened-new, opened-others, opened-only}
 use Rattle.tree.proofs.Closing.{closed-stands, stands-closed, closed-legal}
 use Rattle.tree.proofs.Checks.{open-may}

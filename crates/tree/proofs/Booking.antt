@@ -5,18 +5,16 @@ use Prim.Native.Nat.{ℕ, _+_, _*_, _/_, _%_, _<_, _≤_}
 use native.Mathlib.Omega.{arith}
 use native.Mathlib.Decide.{decLt, ℕ-discrete}
 use native.Mathlib.Nat.{mul-assoc, mul-one, mul-zero, add-zero, mod-lt, mul-le-mul-left, le-antisymm}
-use mathlib.Core.Path.{_≡_, refl, sym, _∙_, ap, ap₂, subst, subst₂}
+use mathlib.Core.Path.{_≡_, refl, sym, _∙_, ap, subst, subst₂}
 use mathlib.Core.Logic.{_⊎_, inl, inr}
-use mathlib.Core.Bool.{Bool, true, false, true≢false, false≢true}
-use lib.Dec.{eqb}
+use mathlib.Core.Bool.{Bool, true, false, true≢false}
 use borrow.Author.Tests.{eq-eqb, ne-eqb}
-use Rattle.tree.specs.Search.{if_then_else_}
 use Rattle.tree.specs.Tree.{Tree, nothing, line, node, present, is-open}
 use Rattle.tree.specs.Standing.{UnderEdge, Stands}
 use Rattle.tree.specs.Shape.{Edges, LegalUnder}
 use Rattle.tree.specs.Opening.{free, group, split, put, one-edge, newcomer}
 use Rattle.tree.proofs.Digits.{digit-high, digits-of}
-use Rattle.tree.proofs.Put.{put-same, put-other, put-each, InPut, NotInPut, put-stands, stands-put-same, stands-put-other}
+use Rattle.tree.proofs.Put.{put-same, put-other, put-each, InPut, NotInPut, put-stands, stands-put-same, stands-put-other, one-edge-stands, stands-one-edge}
 use Rattle.tree.proofs.Searching.{some-below-true, some-below-at}
 use Rattle.tree.proofs.Proper.{nothing-open, one-edge-edges}
 use Rattle.tree.proofs.Classes.{free-absent, taken-present, beyond-free}
@@ -32,33 +30,6 @@ pub record Room (d q w : ℕ) (f : ℕ → Tree) (i : ℕ) : Type 0 where
   pub divides-weight : d * (w / d) ≡ w
   pub class-below : i < d
   pub class-free : free d w f i ≡ true
-
--- A line under the one edge of a node
-
-pub one-edge-stands : (L w : ℕ) → 0 < w → Stands L (one-edge w (line L)) w 0
-unfolding Stands one-edge
-one-edge-stands L w positive =
-    stands-put-same L w 0 (line L) (λ e. nothing) w 0 (record {
-      edge-below = positive;
-      period = 1;
-      start = 0;
-      stands = (refl, refl, refl);
-      period-is = sym (mul-one w);
-      start-is = simp mul-zero;
-    })
-
-pub stands-one-edge : (K L w q u : ℕ) → Stands K (one-edge w (line L)) q u → (K ≡ L) × (q ≡ w) × (u ≡ 0)
-unfolding Stands one-edge
-stands-one-edge K L w q u h = go (put-stands K w 0 (line L) (λ e. nothing) q u h)
-  where
-    go : InPut K w 0 (line L) q u ⊎ NotInPut K w 0 (λ e. nothing) q u → (K ≡ L) × (q ≡ w) × (u ≡ 0)
-    go (inl x) =
-        let at-line = x .stands in (
-          sym (at-line .0),
-          x .period-is ∙ ap (λ (n : ℕ). w * n) (at-line .1) ∙ mul-one w,
-          x .start-is ∙ ap (λ (n : ℕ). 0 + w * n) (at-line .2) ∙ simp mul-zero,
-        )
-    go (inr x) = absurd (x .in-node .stands)
 
 -- The newcomer
 

@@ -4,27 +4,24 @@
 use Prim.Native.Nat.{ℕ, zero, suc, _+_, _*_, _/_, _%_, _<_, _≤_}
 use native.Mathlib.Omega.{arith}
 use native.Mathlib.Decide.{ℕ-discrete}
-use native.Mathlib.Nat.{mul-assoc, mul-comm, mul-add, mul-one, one-mul, mul-zero, add-zero, zero-add, add-assoc, mod-lt, mul-div-cancel', div-eq-of-lt, div-div-eq-div-mul, eq-zero-or-pos, mul-left-comm}
-use mathlib.Core.Path.{_≡_, refl, sym, _∙_, ap, ap₂, subst, subst₂}
+use native.Mathlib.Nat.{mul-assoc, mul-add, mul-one, mul-zero, zero-add, add-assoc, mod-lt, mul-div-cancel', div-div-eq-div-mul, eq-zero-or-pos, mul-left-comm}
+use mathlib.Core.Path.{_≡_, refl, sym, _∙_, ap, subst}
 use mathlib.Core.Logic.{_⊎_, inl, inr}
-use mathlib.Core.Bool.{Bool, true, false, true≢false, false≢true, not-eq-not, and-eq-true-iff}
-use mathlib.Core.Option.{Option, none, some, Option·getD, Option·none-ne-some}
-use borrow.Author.Tests.{not-false}
-use Rattle.tree.specs.Search.{if_then_else_, found, smallest}
+use mathlib.Core.Bool.{true, false, false≢true, not-eq-not, and-eq-true-iff}
+use mathlib.Core.Option.{some, Option·getD}
+use Rattle.tree.specs.Search.{found}
 use Rattle.tree.specs.Numbers.{divides, gcd}
-use Rattle.tree.specs.Tree.{Tree, nothing, line, node, present, is-open, period-of, start-of, product, Place, at-digits, at, way-by-digits, way, step}
-use Rattle.tree.specs.Standing.{UnderEdge, Stands}
-use Rattle.tree.specs.Shape.{Edges, LegalUnder, Alone, Legal}
-use Rattle.tree.specs.Opening.{divisor, free, free-class, candidate, candidate-at, put, one-edge, booking, book-by-digits, class-at, book-into, best, chosen, opened, start-in, start-given}
+use Rattle.tree.specs.Tree.{Tree, nothing, line, node, present, is-open, period-of, start-of, product, at-digits, at, way-by-digits}
+use Rattle.tree.specs.Standing.{Stands}
+use Rattle.tree.specs.Shape.{Edges, LegalUnder, Legal}
+use Rattle.tree.specs.Opening.{divisor, free, free-class, candidate, put, booking, book-by-digits}
 use Rattle.tree.proofs.Digits.{digits-of}
 use Rattle.tree.proofs.Divisors.{divides-true, gcd-divides-left, gcd-divides-right, gcd-positive}
 use Rattle.tree.proofs.Searching.{found-some, smallest-some, some-below-at}
 use Rattle.tree.proofs.Put.{InPut, NotInPut, put-stands, stands-put-same, stands-put-keeps, put-same, put-other, put-each}
-use Rattle.tree.proofs.Proper.{Proper, one-edge-edges, legal-proper}
+use Rattle.tree.proofs.Proper.{Proper}
 use Rattle.tree.proofs.Standing.{stands-open, open-stands, not-open-below}
-use Rattle.tree.specs.Refusals.{no-room}
-use Rattle.tree.proofs.ChosenCandidate.{chosen-is-chosen}
-use Rattle.tree.proofs.Booking.{divisor-at-least-2, one-edge-stands, stands-one-edge, Room, booked-edges, stands-with-line, new-line-stands, with-line-stands, with-line-legal}
+use Rattle.tree.proofs.Booking.{Room, stands-with-line, new-line-stands, with-line-stands, with-line-legal}
 
 -- A candidate has room
 

@@ -1,6 +1,6 @@
 -- The search for the chosen candidate, `chosen` of specs/Opening.antt, finds the one place that is chosen, and finds none only where no node is a candidate.
 -- Assumes nothing.
-use Prim.Native.Nat.{ℕ, zero, suc, _+_, _*_, _/_, _%_, _<_}
+use Prim.Native.Nat.{ℕ, zero, suc, _*_, _/_, _%_, _<_}
 use native.Mathlib.Nat.{one-mul, mul-one, mul-assoc, mod-lt, mod-add-div}
 use native.Mathlib.Decide.{ℕ-discrete}
 use native.Mathlib.Omega.{arith}

@@ -3,11 +3,10 @@
 use Prim.Native.Nat.{ℕ, _%_, _<_, _≤_}
 use native.Mathlib.Omega.{arith}
 use native.Mathlib.Nat.{mod-lt}
-use mathlib.Core.Path.{_≡_, refl, sym, _∙_, ap}
+use mathlib.Core.Path.{_≡_, refl, ap}
 use mathlib.Core.Bool.{true, false, not, _&&_, and-eq-true-iff}
 use lib.Dec.{eqb}
 use borrow.Author.Tests.{eqb-true, eq-eqb, ne-eqb, not-true, not-false}
-use Rattle.tree.specs.Search.{some-below}
 use Rattle.tree.specs.Tree.{Tree, present}
 use Rattle.tree.specs.Opening.{free}
 use Rattle.tree.proofs.Searching.{some-below-true, some-below-false, some-below-at, some-below-none}

@@ -10,14 +10,13 @@ use lib.Dec.{eqb}
 use borrow.Author.Tests.{eq-eqb, ne-eqb, eqb-false}
 use Rattle.tree.specs.Search.{if_then_else_, some-below}
 use Rattle.tree.specs.Tree.{Tree, nothing, line, node, present, is-open}
-use Rattle.tree.specs.Standing.{UnderEdge, Stands}
-use Rattle.tree.specs.Opening.{one-edge}
-use Rattle.tree.specs.Shape.{LegalUnder, Alone, Legal}
+use Rattle.tree.specs.Standing.{Stands}
+use Rattle.tree.specs.Shape.{LegalUnder, Legal}
 use Rattle.tree.specs.Closing.{prune, closed}
 use Rattle.tree.proofs.Searching.{some-below-true, some-below-at, some-below-none}
 use Rattle.tree.proofs.UnderEdge.{stands-under, same-edge, stands-present}
-use Rattle.tree.proofs.Put.{put-same}
-use Rattle.tree.proofs.Proper.{Proper, legal-under-proper, legal-proper}
+use Rattle.tree.proofs.Put.{alone-line}
+use Rattle.tree.proofs.Proper.{Proper, legal-proper}
 use Rattle.tree.proofs.Standing.{open-stands, stands-open}
 
 -- Pruning: a pruned node is the node, or nothing
@@ -72,7 +71,7 @@ stands-closed L M (node w f) q u h other =
 
 -- A tree in which something stands holds a line
 
-proper-present-line : (t : Tree) → Proper t → present t ≡ true → (M : ℕ) × (q : ℕ) × (u : ℕ) × Stands M t q u
+pub proper-present-line : (t : Tree) → Proper t → present t ≡ true → (M : ℕ) × (q : ℕ) × (u : ℕ) × Stands M t q u
 unfolding Proper present Stands
 proper-present-line nothing proper h = absurd (false≢true h)
 proper-present-line (line n) proper h = (n, 1, 0, (refl, refl, refl))
@@ -81,23 +80,14 @@ proper-present-line (node w f) proper h =
     let below = proper-present-line (f (x .0)) (proper .2 (x .0)) (x .2) in
     (below .0, w * below .1, x .0 + w * below .2, stands-under _ w f (x .0) _ _ (x .1) (below .3))
 
-pub present-line : (m : ℕ) (t : Tree) → LegalUnder m t → present t ≡ true → (M : ℕ) × (q : ℕ) × (u : ℕ) × Stands M t q u
-present-line m t legal = proper-present-line t (legal-under-proper m t legal)
-
-pub legal-present-line : (t : Tree) → Legal t → present t ≡ true → (M : ℕ) × (q : ℕ) × (u : ℕ) × Stands M t q u
-legal-present-line t legal = proper-present-line t (legal-proper t legal)
-
 -- A tree whose last line goes is the empty one
 
-only-line-closed : (L : ℕ) (t : Tree) → ((M q u : ℕ) → Stands M t q u → M ≡ L) → closed L t ≡ nothing
+pub last-line-closed : (L : ℕ) (t : Tree) → ((M q u : ℕ) → Stands M t q u → M ≡ L) → closed L t ≡ nothing
 unfolding closed Stands
-only-line-closed L nothing only = refl
-only-line-closed L (line n) only = rw (eq-eqb n L (only n 1 0 (refl, refl, refl)))
-only-line-closed L (node w f) only =
-    prune-gone w _ λ e below. only-line-closed L (f e) λ M q u h. only M _ _ (stands-under M w f e q u below h)
-
-pub last-line-closed : (L : ℕ) (t : Tree) → Legal t → ((M q u : ℕ) → Stands M t q u → M ≡ L) → closed L t ≡ nothing
-last-line-closed L t legal only = only-line-closed L t only
+last-line-closed L nothing only = refl
+last-line-closed L (line n) only = rw (eq-eqb n L (only n 1 0 (refl, refl, refl)))
+last-line-closed L (node w f) only =
+    prune-gone w _ λ e below. last-line-closed L (f e) λ M q u h. only M _ _ (stands-under M w f e q u below h)
 
 -- A tree without line L stays as it is
 
@@ -134,14 +124,6 @@ closed-legal-under L m (node w f) h =
       λ e. closed-legal-under L (m * w) (f e) (h .2 e),
     )) tt
 
-alone-line : (t : Tree) (alone : Alone t) (M q u : ℕ) → Stands M t q u → M ≡ alone .number
-unfolding Stands one-edge
-alone-line t alone M q u h =
-    let x : Stands M (one-edge 1 (line (alone .number))) q u = rw (alone .tree) at h in
-    let below = x .edge-below in
-    let there = subst (λ (t : Tree). Stands M t (x .period) (x .start)) (put-same 0 (x .edge) _ _ (omega arith)) (x .stands) in
-    sym (there .0)
-
 pub closed-legal : (L : ℕ) (t : Tree) → Legal t → Legal (closed L t)
 unfolding closed Legal LegalUnder
 closed-legal L nothing h = tt
@@ -151,6 +133,6 @@ closed-legal L (node w f) (inl h) =
 closed-legal L (node w f) (inr h) =
     let t = node w f in
     elim (ℕ-discrete (h .number) L) [
-      | yes e ↦ subst Legal (sym (only-line-closed L t λ M q u s. alone-line t h M q u s ∙ e)) tt
-      | no other ↦ subst Legal (sym (absent-line-closed L t (legal-proper t (inr h)) λ q u s. other (sym (alone-line t h L q u s)))) (inr h)
+      | yes e ↦ subst Legal (sym (last-line-closed L t λ M q u s. alone-line M t q u h s ∙ e)) tt
+      | no other ↦ subst Legal (sym (absent-line-closed L t (legal-proper t (inr h)) λ q u s. other (sym (alone-line L t q u h s)))) (inr h)
     ]

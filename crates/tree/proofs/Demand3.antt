@@ -1,34 +1,33 @@
 -- Demand 3 over the definitions (specs/Demand3.antt): it holds of every list of opens and closes, with any arguments, that the rules answer.
 -- Assumes nothing.
-use Prim.Native.Nat.{ℕ, _%_, _<_, _≤_}
+use Prim.Native.Nat.{ℕ, _<_, _≤_}
 use native.Mathlib.Omega.{arith}
-use mathlib.Core.Path.{_≡_, refl, sym, _∙_, ap, subst}
-use mathlib.Core.Logic.{_⊎_, inl, inr, _↔_}
-use mathlib.Core.Bool.{Bool, true, false, not, _&&_, true≢false, false≢true, and-eq-true-iff}
-use mathlib.Core.List.{List, [], _∷_, _++_}
-use mathlib.Core.Option.{Option, none, some, Option·none-ne-some}
+use mathlib.Core.Path.{_≡_, refl, sym, _∙_, ap}
+use mathlib.Core.Logic.{_↔_}
+use mathlib.Core.Bool.{Bool, true, false, not, and-eq-true-iff}
+use mathlib.Core.List.{List}
+use mathlib.Core.Option.{Option, none, some}
 use lib.ListN.{length}
 use borrow.Author.Tests.{not-true}
 use Rattle.tree.specs.Search.{if_then_else_, found}
 use Rattle.tree.specs.Tree.{Tree, nothing, present, is-open, path, path-of, Place}
-use Rattle.tree.specs.Standing.{Stands}
 use Rattle.tree.specs.Opening.{chosen, NoCandidate, start-given}
 use Rattle.tree.specs.Asking.{owner}
-use Rattle.tree.specs.Refusals.{first-refusal, line-above-63, no-room, earlier-checks, open-refusal, line-refusal}
-use Rattle.tree.specs.Calls.{Call, open-line, close-line, Answer, booked, done, refused, refusal, reply, answer-unless, answer, after}
-use Rattle.tree.specs.Lists.{Booking, Ledger, all-closed, Entry, calls-of, ledger-from, ledger-of, reference-from, reference, answered-from, RoundFits}
+use Rattle.tree.specs.Refusals.{first-refusal, line-above-63, no-room, earlier-checks}
+use Rattle.tree.specs.Calls.{Call, open-line, close-line, Answer, booked, done, refused, refusal, reply, answer-unless, answer}
+use Rattle.tree.specs.Lists.{Booking, Ledger, all-closed, calls-of, ledger-from, ledger-of, reference-from, reference, answered-from, RoundFits}
 use Rattle.tree.specs.Demand3.{SomeOpen, Refused, OpenAnswered, CloseAnswered, Demand3}
 use Rattle.tree.proofs.Searching.{found-some, found-none}
 use Rattle.tree.proofs.Proper.{legal-proper}
 use Rattle.tree.proofs.UnderEdge.{stands-present}
-use Rattle.tree.proofs.Ownership.{Owns, walk-owns, stands-walk, no-two-owners}
+use Rattle.tree.proofs.Ownership.{walk-owns, stands-walk}
 use Rattle.tree.proofs.ChosenCandidate.{chosen-none, no-candidate-chosen-none}
-use Rattle.tree.proofs.Closing.{legal-present-line}
+use Rattle.tree.proofs.Closing.{proper-present-line}
 use Rattle.tree.proofs.Checks.{refused-earlier, refused-by-5, close-allowed, close-refused}
 use Rattle.tree.proofs.Numbering.{stands-number}
 use Rattle.tree.proofs.Standing.{stands-open}
 use Rattle.tree.proofs.Depth.{at-most-11-above}
-use Rattle.tree.proofs.Agreement.{Agree, ledger-open, agree-at-first, Point, point, agree-along, calls-answered}
+use Rattle.tree.proofs.Agreement.{Agree, ledger-open, agree-at-first, point, agree-along, calls-answered}
 
 -- What a call answers
 
@@ -68,7 +67,7 @@ module _ (ledger : Ledger) (t : Tree) (agree : Agree ledger t) where
       refuses : no-room p t ≡ true → SomeOpen ledger × NoCandidate p t
       refuses h =
           let both = and-eq-true-iff (present t) (not (found (chosen p t))) .0 h in
-          let x = legal-present-line t (agree .legal) (both .0) in (
+          let x = proper-present-line t (legal-proper t (agree .legal)) (both .0) in (
             (x .0, record { period = x .1; start = x .2 }, agree .entered (x .0) (x .1) (x .2) (x .3)),
             chosen-none p t (legal-proper t (agree .legal)) (found-none (chosen p t) (not-true (found (chosen p t)) (both .1))),
           )

@@ -1,12 +1,12 @@
 -- A line that stands in a legal tree has a number of at most 63.
 -- Assumes nothing.
 use Prim.Native.Nat.{ℕ, _*_, _≤_}
-use mathlib.Core.Path.{_≡_, refl, sym, subst}
+use mathlib.Core.Path.{sym, subst}
 use mathlib.Core.Logic.{inl, inr}
 use Rattle.tree.specs.Tree.{Tree, nothing, line, node}
 use Rattle.tree.specs.Standing.{Stands}
 use Rattle.tree.specs.Shape.{LegalUnder, Legal}
-use Rattle.tree.proofs.Booking.{stands-one-edge}
+use Rattle.tree.proofs.Put.{alone-line}
 
 under-number : (L m : ℕ) (t : Tree) (q u : ℕ) → LegalUnder m t → Stands L t q u → L ≤ 63
 unfolding LegalUnder Stands
@@ -21,5 +21,4 @@ stands-number L nothing q u legal h = absurd h
 stands-number L (line n) q u legal h = absurd legal
 stands-number L (node w f) q u (inl legal) h = under-number L 1 (node w f) q u legal h
 stands-number L (node w f) q u (inr alone) h =
-    let x = stands-one-edge L (alone .number) 1 q u (subst (λ (t : Tree). Stands L t q u) (alone .tree) h) in
-    subst (λ (k : ℕ). k ≤ 63) (sym (x .0)) (alone .number-in-range)
+    subst (λ (k : ℕ). k ≤ 63) (sym (alone-line L (node w f) q u alone h)) (alone .number-in-range)

@@ -1,10 +1,10 @@
 -- What the laws need of a tree: in every node a weight above 0, and edges as document 01 wants them. Every legal tree has it.
 -- Assumes nothing.
-use Prim.Native.Nat.{ℕ, _<_, _≤_, _*_}
+use Prim.Native.Nat.{ℕ, _<_, _*_}
 use native.Mathlib.Omega.{arith}
 use native.Mathlib.Decide.{ℕ-discrete}
 use mathlib.Core.Path.{_≡_, refl, sym, _∙_, ap, subst}
-use mathlib.Core.Logic.{_⊎_, inl, inr}
+use mathlib.Core.Logic.{inl, inr}
 use mathlib.Core.Bool.{true, false, false≢true}
 use Rattle.tree.specs.Search.{found}
 use Rattle.tree.specs.Tree.{Tree, nothing, line, node, present, path, is-open}

@@ -2,14 +2,14 @@
 -- Assumes nothing.
 use Prim.Native.Nat.{ℕ, _+_, _*_, _<_}
 use native.Mathlib.Decide.{ℕ-discrete}
+use native.Mathlib.Nat.{mul-one, mul-zero}
 use mathlib.Core.Path.{_≡_, refl, sym, _∙_, ap, subst}
 use mathlib.Core.Logic.{_⊎_, inl, inr}
-use lib.Dec.{eqb}
 use borrow.Author.Tests.{eq-eqb, ne-eqb}
-use Rattle.tree.specs.Search.{if_then_else_}
-use Rattle.tree.specs.Tree.{Tree, node}
+use Rattle.tree.specs.Tree.{Tree, nothing, line, node}
 use Rattle.tree.specs.Standing.{UnderEdge, Stands}
-use Rattle.tree.specs.Opening.{put}
+use Rattle.tree.specs.Opening.{put, one-edge}
+use Rattle.tree.specs.Shape.{Alone}
 use Rattle.tree.proofs.UnderEdge.{same-edge}
 
 pub put-same : (i e : ℕ) (t : Tree) (f : ℕ → Tree) → e ≡ i → put i t f e ≡ t
@@ -89,3 +89,35 @@ module _ (K w i : ℕ) (t : Tree) (f : ℕ → Tree) (q u : ℕ) where
         | yes same ↦ rw (put-same i (h .edge) t f same) (keeps (h .period) (h .start) (rw same at (h .stands)))
         | no other ↦ rw (put-other i (h .edge) t f other) (h .stands)
       ])
+
+-- A line under the one edge of a node
+
+pub one-edge-stands : (L w : ℕ) → 0 < w → Stands L (one-edge w (line L)) w 0
+unfolding Stands one-edge
+one-edge-stands L w positive =
+    stands-put-same L w 0 (line L) (λ e. nothing) w 0 (record {
+      edge-below = positive;
+      period = 1;
+      start = 0;
+      stands = (refl, refl, refl);
+      period-is = sym (mul-one w);
+      start-is = simp mul-zero;
+    })
+
+pub stands-one-edge : (K L w q u : ℕ) → Stands K (one-edge w (line L)) q u → (K ≡ L) × (q ≡ w) × (u ≡ 0)
+unfolding Stands one-edge
+stands-one-edge K L w q u h = go (put-stands K w 0 (line L) (λ e. nothing) q u h)
+  where
+    go : InPut K w 0 (line L) q u ⊎ NotInPut K w 0 (λ e. nothing) q u → (K ≡ L) × (q ≡ w) × (u ≡ 0)
+    go (inl x) =
+        let at-line = x .stands in (
+          sym (at-line .0),
+          x .period-is ∙ ap (λ (n : ℕ). w * n) (at-line .1) ∙ mul-one w,
+          x .start-is ∙ ap (λ (n : ℕ). 0 + w * n) (at-line .2) ∙ simp mul-zero,
+        )
+    go (inr x) = absurd (x .in-node .stands)
+
+-- the line of a root of weight 1 is the only one
+pub alone-line : (K : ℕ) (t : Tree) (q u : ℕ) (alone : Alone t) → Stands K t q u → K ≡ alone .number
+alone-line K t q u alone h =
+    stands-one-edge K (alone .number) 1 q u (subst (λ (x : Tree). Stands K x q u) (alone .tree) h) .0

@@ -1,9 +1,8 @@
 -- Laws of the searches below a bound (specs/Search.antt).
 -- Assumes nothing.
-use Prim.Native.Nat.{ℕ, zero, suc, _<_, _≤_}
+use Prim.Native.Nat.{ℕ, zero, suc, _<_}
 use native.Mathlib.Omega.{arith}
 use native.Mathlib.Nat.{eq-or-lt-of-le, le-of-suc-le-suc}
-use native.Mathlib.Decide.{decLt}
 use mathlib.Core.Path.{_≡_, refl, sym, _∙_, ap}
 use mathlib.Core.Logic.{_⊎_, inl, inr}
 use mathlib.Core.Bool.{Bool, true, false, true≢false, false≢true}
@@ -13,16 +12,6 @@ use Rattle.tree.specs.Search.{if_then_else_, found, or-else, first, smal
 -- what is below suc n is n or below n
 pub last-or-below : (i n : ℕ) → i < suc n → (i ≡ n) ⊎ (i < n)
 last-or-below i n h = eq-or-lt-of-le (le-of-suc-le-suc h)
-
-pub below-equal-above : (i k : ℕ) → (i < k) ⊎ ((i ≡ k) ⊎ (k < i))
-below-equal-above i k = elim (decLt i k) [ yes h ↦ inl h | no h ↦ inr (later (eq-or-lt-of-le (not-below h))) ]
-  where
-    not-below : ¬ (i < k) → k ≤ i
-    not-below h = omega arith
-
-    later : (k ≡ i) ⊎ (k < i) → (i ≡ k) ⊎ (k < i)
-    later (inl e) = inl (sym e)
-    later (inr h) = inr h
 
 -- the number below n whose offer is the first one
 pub record FirstAt {A : Type 0} (n : ℕ) (offer : ℕ → Option A) (a : A) : Type 0 where

@@ -4,20 +4,18 @@
 use Prim.Native.Nat.{ℕ, _+_, _*_, _/_, _%_, _<_, _≤_}
 use native.Mathlib.Omega.{arith}
 use native.Mathlib.Decide.{decLt}
-use native.Mathlib.Nat.{mul-assoc, mul-add, mul-one, add-assoc, mod-lt, mod-eq-of-lt, mul-comm, div-lt-iff-lt-mul, le-antisymm, le-mul-of-pos-right, mul-zero, eq-zero-or-pos}
+use native.Mathlib.Nat.{mul-assoc, mul-add, add-assoc, mod-lt, mod-eq-of-lt, mul-comm, div-lt-iff-lt-mul, le-antisymm, le-mul-of-pos-right, mul-zero, eq-zero-or-pos}
 use mathlib.Core.Path.{_≡_, refl, sym, _∙_, ap, ap₂, subst, subst₂}
 use mathlib.Core.Logic.{_⊎_, inl, inr, _↔_}
 use mathlib.Core.Bool.{Bool, true, false}
-use lib.Dec.{ltb}
 use borrow.Author.Tests.{lt-ltb, le-ltb}
-use Rattle.tree.specs.Search.{if_then_else_}
-use Rattle.tree.specs.Tree.{Tree, nothing, node, present}
+use Rattle.tree.specs.Tree.{Tree, nothing, node}
 use Rattle.tree.specs.Standing.{UnderEdge, Stands}
 use Rattle.tree.specs.Opening.{free, group, split}
-use Rattle.tree.proofs.Digits.{digit-low, digit-high, digits-below, digits-of}
+use Rattle.tree.proofs.Digits.{digit-low, digits-below, digits-of}
 use Rattle.tree.proofs.Put.{InPut}
 use Rattle.tree.proofs.Classes.{present-taken}
-use Rattle.tree.proofs.UnderEdge.{stands-under, stands-present}
+use Rattle.tree.proofs.UnderEdge.{stands-present}
 
 module _ (d w : ℕ) (f : ℕ → Tree) where
   pub group-nothing : (k : ℕ) → free d w f k ≡ true → group d w f k ≡ nothing

@@ -1,25 +1,24 @@
 -- Where a line stands (specs/Standing.antt): by its path, once, with one period and one start, the start below the period.
 -- Assumes nothing.
-use Prim.Native.Nat.{ℕ, zero, suc, _+_, _*_, _<_, _≤_}
+use Prim.Native.Nat.{ℕ, _+_, _*_, _<_}
 use native.Mathlib.Omega.{arith}
 use native.Mathlib.Decide.{decLt}
-use native.Mathlib.Nat.{mul-one, one-mul, mul-add, mul-assoc, mul-comm, add-zero, mul-zero}
-use mathlib.Core.Path.{_≡_, refl, sym, _∙_, ap, ap₂, subst, subst₂}
-use mathlib.Core.Logic.{_⊎_, inl, inr}
+use native.Mathlib.Nat.{mul-one, one-mul, mul-add, mul-assoc, mul-comm, mul-zero}
+use mathlib.Core.Path.{_≡_, refl, sym, _∙_, ap, ap₂}
 use mathlib.Core.Bool.{Bool, true, false, true≢false}
 use mathlib.Core.List.{List, [], _∷_}
-use mathlib.Core.Option.{Option, none, some, Option·map, Option·getD, Option·some-ne-none, Option·none-ne-some}
+use mathlib.Core.Option.{Option, none, some, Option·map, Option·some-ne-none, Option·none-ne-some}
 use lib.Dec.{eqb}
 use borrow.Author.Tests.{eqb-true, eq-eqb}
 use Rattle.tree.specs.declared.Row.{Row}
-use Rattle.tree.specs.Search.{if_then_else_, found, first}
+use Rattle.tree.specs.Search.{if_then_else_, found}
 use Rattle.tree.specs.Tree.{Tree, nothing, line, node, row, product, sum-from, sum, path, is-open, path-of, period-of, start-of}
-use Rattle.tree.specs.Standing.{UnderEdge, Stands}
+use Rattle.tree.specs.Standing.{Stands}
 use Rattle.tree.specs.Shape.{Edges}
 use Rattle.tree.proofs.UnderEdge.{stands-under}
 use Rattle.tree.proofs.Proper.{Proper, nothing-open}
 use Rattle.tree.proofs.Digits.{digits-below}
-use Rattle.tree.proofs.Searching.{FirstAt, first-none, first-some, found-some}
+use Rattle.tree.proofs.Searching.{first-none, first-some, found-some}
 
 -- Equation 6, from the last row up
 
@@ -148,3 +147,8 @@ start-below-period L (line n) q u h = let q1 = h .1 in let u0 = h .2 in omega ar
 start-below-period L (node w f) q u h =
     rw (h .period-is, h .start-is)
     (digits-below w (h .period) (h .edge) (h .start) (h .edge-below) (start-below-period L (f (h .edge)) (h .period) (h .start) (h .stands)))
+
+-- a line's period is the product of the weights on its path, and its start equation 6's sum
+pub stands-by-path : (L : ℕ) (t : Tree) (q u : ℕ) → Proper t → Stands L t q u → (q ≡ period-of L t) × (u ≡ start-of L t)
+stands-by-path L t q u proper h =
+    stands-once L t q u (period-of L t) (start-of L t) proper h (open-stands L t (stands-open L t q u h))

@@ -6,7 +6,7 @@ use mathlib.Core.List.{List, [], _∷_, _++_}
 use mathlib.Core.Option.{Option, none, some}
 use lib.ListN.{length}
 use Rattle.tree.specs.declared.Row.{Row}
-use Rattle.tree.specs.Tree.{Tree, nothing, row, path-of}
+use Rattle.tree.specs.Tree.{Tree, row, path-of}
 use Rattle.tree.specs.Asking.{owner, rows-11, Shown}
 use Rattle.tree.specs.Calls.{open-line, close-line, Answer, booked, done, refused, answer, after, Outcome, gives, refuses, show-outcome, turns-outcome}
 

@@ -10,7 +10,7 @@ use Rattle.tree.specs.declared.Row.{Row}
 use Rattle.tree.specs.declared.Plan.{Plan}
 use Rattle.tree.specs.Search.{if_then_else_, all-below}
 use Rattle.tree.specs.Tree.{Tree, nothing, line, node, row, product, path-of}
-use Rattle.tree.specs.Opening.{put, one-edge}
+use Rattle.tree.specs.Opening.{put}
 use Rattle.tree.specs.Asking.{rows-11}
 
 -- Paths in the record
