@@ -11,6 +11,7 @@ pub mod lists;
 pub mod orders;
 pub mod random;
 pub mod refusal;
+pub mod script;
 pub mod shapes;
 pub mod tree;
 

@@ -1,18 +1,24 @@
-//! `second book` and `second lists SEED COUNT SHAPE`.
+//! The commands: `book`, `lists`, `script` and `answers`.
 
 use second::orders::LONGEST_LIST;
 use second::shapes::Shape;
-use second::{book, lists};
+use second::{book, lists, script};
 use std::io::{self, BufWriter, Read, Write};
 use std::process::ExitCode;
 
 const USAGE: &str = "usage: second book
        second lists SEED COUNT SHAPE
+       second script cases
+       second script SEED COUNT SHAPE
+       second answers
 SEED and COUNT are decimal, SHAPE is sparse, full, deep or primes";
 
 enum Call {
     Book,
     Lists(u64, u64, Shape),
+    MarkedCases,
+    Script(u64, u64, Shape),
+    Answers,
 }
 
 fn call(arguments: &[String]) -> Option<Call> {
@@ -24,23 +30,35 @@ fn call(arguments: &[String]) -> Option<Call> {
             count.parse().ok()?,
             Shape::named(shape)?,
         )),
+        ["script", "cases"] => Some(Call::MarkedCases),
+        ["script", seed, count, shape] => Some(Call::Script(
+            seed.parse().ok()?,
+            count.parse().ok()?,
+            Shape::named(shape)?,
+        )),
+        ["answers"] => Some(Call::Answers),
         _ => None,
     }
 }
 
-/// One byte above the longest list is enough to tell that a list is too long.
-fn input() -> io::Result<Vec<u8>> {
-    let mut list = Vec::new();
-    let limit = LONGEST_LIST as u64 + 1;
-    io::stdin().lock().take(limit).read_to_end(&mut list)?;
-    Ok(list)
+/// Standard input, up to a limit.
+fn input(limit: u64) -> io::Result<Vec<u8>> {
+    let mut bytes = Vec::new();
+    io::stdin().lock().take(limit).read_to_end(&mut bytes)?;
+    Ok(bytes)
 }
 
 fn run(call: Call) -> io::Result<()> {
     let mut out = BufWriter::new(io::stdout().lock());
     match call {
-        Call::Book => book::print(&input()?, &mut out)?,
+        // One byte above the longest list is enough to tell that a list is too long.
+        Call::Book => book::print(&input(LONGEST_LIST as u64 + 1)?, &mut out)?,
         Call::Lists(seed, count, shape) => lists::print(seed, count, shape, &mut out)?,
+        Call::MarkedCases => script::write(&script::marked_cases(), &mut out)?,
+        Call::Script(seed, count, shape) => {
+            script::write(&script::generated(seed, count, shape), &mut out)?;
+        }
+        Call::Answers => script::print_answers(&input(u64::MAX)?, &mut out)?,
     }
     out.flush()
 }

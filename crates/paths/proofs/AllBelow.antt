@@ -1,0 +1,78 @@
+-- Laws of `all-below` (crate tree, specs/Search.antt), and the invariant of a loop that tests one number after the other.
+-- Assumes nothing.
+use Prim.Native.Nat.{ℕ, _+_, _<_, _≤_, zero-le}
+use native.Mathlib.Omega.{arith}
+use native.Mathlib.Nat.{lt-of-lt-of-le}
+use mathlib.Core.Path.{_≡_, refl, ap}
+use mathlib.Core.Logic.{_⊎_, inl, inr}
+use mathlib.Core.Bool.{Bool, true, false, not, _&&_}
+use borrow.Author.Tests.{not-true, not-false}
+use borrow.Author.Count.{below-none, below-more}
+use Rattle.tree.specs.Search.{all-below}
+use Rattle.tree.proofs.Searching.{some-below-true, some-below-false, some-below-at, some-below-none}
+
+pub all-below-each : (n : ℕ) (test : ℕ → Bool) → all-below n test ≡ true → (i : ℕ) → i < n → test i ≡ true
+unfolding all-below
+all-below-each n test h i below = not-false (test i) (some-below-false n (λ j. not (test j)) (not-true _ h) i below)
+
+pub all-below-all : (n : ℕ) (test : ℕ → Bool) → ((i : ℕ) → i < n → test i ≡ true) → all-below n test ≡ true
+unfolding all-below
+all-below-all n test h = ap not (some-below-none n (λ j. not (test j)) (λ i below. ap not (h i below)))
+
+pub all-below-fault : (n : ℕ) (test : ℕ → Bool) (i : ℕ) → i < n → test i ≡ false → all-below n test ≡ false
+unfolding all-below
+all-below-fault n test i below h = ap not (some-below-at n (λ j. not (test j)) i below (ap not h))
+
+pub all-below-faulty : (n : ℕ) (test : ℕ → Bool) → all-below n test ≡ false → (i : ℕ) × (i < n) × (test i ≡ false)
+unfolding all-below
+all-below-faulty n test h =
+    let x = some-below-true n (λ j. not (test j)) (not-false _ h) in
+    (x .0, x .1, not-true _ (x .2))
+
+pub both-true : (a b : Bool) → (a && b) ≡ true → (a ≡ true) × (b ≡ true)
+both-true true b h = (refl, h)
+both-true false true h = (h, refl)
+both-true false false h = (h, h)
+
+pub one-false : (a b : Bool) → (a && b) ≡ false → (a ≡ false) ⊎ (b ≡ false)
+one-false true b h = inr h
+one-false false b h = inl refl
+
+and-false-right : (a b : Bool) → b ≡ false → (a && b) ≡ false
+and-false-right true b h = h
+and-false-right false b h = refl
+
+-- two tests of every number below n are one test of both
+pub all-below-and : (n : ℕ) (f g : ℕ → Bool) → (all-below n f && all-below n g) ≡ all-below n (λ i. f i && g i)
+all-below-and n f g = go (all-below n (λ i. f i && g i)) refl
+  where
+    fails : (i : ℕ) → i < n → (f i ≡ false) ⊎ (g i ≡ false) → (all-below n f && all-below n g) ≡ false
+    fails i below (inl e) = ap (λ (b : Bool). b && all-below n g) (all-below-fault n f i below e)
+    fails i below (inr e) = and-false-right (all-below n f) (all-below n g) (all-below-fault n g i below e)
+
+    go : (b : Bool) → all-below n (λ i. f i && g i) ≡ b → (all-below n f && all-below n g) ≡ all-below n (λ i. f i && g i)
+    go true e =
+        let first = all-below-all n f (λ i below. both-true (f i) (g i) (all-below-each n _ e i below) .0) in
+        let second = all-below-all n g (λ i below. both-true (f i) (g i) (all-below-each n _ e i below) .1) in
+        rw (first, second, e)
+    go false e =
+        let x = all-below-faulty n (λ i. f i && g i) e in
+        rw e (fails (x .0) (x .1) (one-false (f (x .0)) (g (x .0)) (x .2)))
+
+-- a loop has come to k, and every number below k passed the test
+pub record Tested (n : ℕ) (test : ℕ → Bool) (k : ℕ) : Type 0 where
+  pub within : k ≤ n
+  pub passed : (i : ℕ) → i < k → test i ≡ true
+
+pub tested-none : (n : ℕ) (test : ℕ → Bool) → Tested n test 0
+tested-none n test = record { within = zero-le; passed = below-none (λ (i : ℕ). test i ≡ true) }
+
+module _ {n : ℕ} {test : ℕ → Bool} {k : ℕ} (tested : Tested n test k) where
+  pub tested-more : k < n → test k ≡ true → Tested n test (k + 1)
+  tested-more below h = record { within = omega arith; passed = below-more (λ (i : ℕ). test i ≡ true) k (tested .passed) h }
+
+  pub tested-fault : k < n → test k ≡ false → all-below n test ≡ false
+  tested-fault below h = all-below-fault n test k below h
+
+  pub tested-all : n ≤ k → all-below n test ≡ true
+  tested-all past = all-below-all n test (λ i below. tested .passed i (lt-of-lt-of-le below past))

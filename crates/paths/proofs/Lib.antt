@@ -1,0 +1,10 @@
+-- Tests of every number below a bound
+pub mod AllBelow
+-- Paths, read row by row
+pub mod PathRest
+pub mod PathLength
+pub mod PathsPart
+pub mod PathRange
+pub mod UnusedRows
+-- The whole record
+pub mod LegalLines
