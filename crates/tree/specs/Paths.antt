@@ -13,7 +13,7 @@ use Rattle.tree.specs.Search.{if_then_else_, smallest, some-below}
 use Rattle.tree.specs.Tree.{row, product, sum, Place}
 use Rattle.tree.specs.Opening.{divisor, before}
 use Rattle.tree.specs.Asking.{rows-11}
-use Rattle.tree.specs.Record.{path-at, numbers}
+use Rattle.tree.specs.Record.{path-at, no-rows, numbers}
 
 -- the paths of the lines, by line number
 abbrev pub Family : Type 0
@@ -104,3 +104,23 @@ booked-at rows L p s =
     let ps = path-at rows (s .line) in
     let split = if ltb (s .divisor) (row-of (s .level) ps .weight) then split-lines rows ps (s .level) (s .divisor) 64 else rows in
     set-line split L (booked-path (take (s .level) ps) (s .divisor) (s .class) (p / (s .step * s .divisor)))
+
+-- Asking, over the paths
+
+-- the line of smallest number that takes edge e of the node at level l of path ps
+unfoldable pub line-under : Family → List Row → ℕ → ℕ → Option ℕ
+line-under family ps l e = smallest 64 (λ N. same-node l ps (family N) && eqb (row-of l (family N) .edge) e)
+
+-- the walk for round n from the node at level l of line M's path on, through at most so many nodes
+unfoldable pub walk-on-paths : Family → ℕ → ℕ → ℕ → ℕ → Option ℕ
+walk-on-paths family zero M l n = none
+walk-on-paths family (suc left) M l n =
+    elim (line-under family (family M) l (n % row-of l (family M) .weight)) [
+      | none ↦ none
+      | some N ↦ if eqb (length (family N)) (suc l) then some N else walk-on-paths family left N (suc l) (n / row-of l (family M) .weight)
+    ]
+
+-- the walk from the root, which every open line's path goes through
+unfoldable pub owner-on-paths : Family → ℕ → Option ℕ
+owner-on-paths family n =
+    elim (smallest 64 (λ M. not (no-rows (family M)))) [ none ↦ none | some M ↦ walk-on-paths family 11 M 0 n ]
