@@ -1,18 +1,20 @@
-//! `second book` and `second lists SEED COUNT SHAPE`.
+//! `second book`, `second lists SEED COUNT SHAPE` and `second orders`.
 
 use second::orders::LONGEST_LIST;
 use second::shapes::Shape;
-use second::{book, lists};
+use second::{book, lists, order_counts};
 use std::io::{self, BufWriter, Read, Write};
 use std::process::ExitCode;
 
 const USAGE: &str = "usage: second book
        second lists SEED COUNT SHAPE
+       second orders
 SEED and COUNT are decimal, SHAPE is sparse, full, deep or primes";
 
 enum Call {
     Book,
     Lists(u64, u64, Shape),
+    Orders,
 }
 
 fn call(arguments: &[String]) -> Option<Call> {
@@ -24,6 +26,7 @@ fn call(arguments: &[String]) -> Option<Call> {
             count.parse().ok()?,
             Shape::named(shape)?,
         )),
+        ["orders"] => Some(Call::Orders),
         _ => None,
     }
 }
@@ -41,6 +44,7 @@ fn run(call: Call) -> io::Result<()> {
     match call {
         Call::Book => book::print(&input()?, &mut out)?,
         Call::Lists(seed, count, shape) => lists::print(seed, count, shape, &mut out)?,
+        Call::Orders => order_counts::print(&mut out)?,
     }
     out.flush()
 }
