@@ -1,11 +1,11 @@
 -- Laws of fields by shifts and masks, over every width and place. Whatever is made of fields cites these, at its own widths.
 -- Assumes nothing.
-use mathlib.Core.Path.{_≡_, refl, ap, ap₂, sym, _∙_, subst}
-use Prim.Native.Nat.{ℕ, _+_, _-_, _*_, _/_, _%_, _^_, _≤_, _<_}
-use native.Mathlib.Nat.{mod-lt, mod-eq-of-lt, div-one, mul-one, one-mul, add-comm, le-add-right, lt-of-le-of-lt}
+use mathlib.Core.Path.{_≡_, ap, sym, _∙_, subst}
+use Prim.Native.Nat.{ℕ, _+_, _-_, _*_, _/_, _%_, _^_, _<_}
+use native.Mathlib.Nat.{mod-lt, mod-eq-of-lt, div-one, one-mul, le-add-right, lt-of-le-of-lt}
 use lib.Arith.{digits-lt}
 use lib.Bits.{bitAnd, bitOr, and-mask, or-shifted}
-use lib.Pow.{pow-pos, pow-add, pow-lt, shr-shr, high, low, mod-pow-add}
+use lib.Pow.{pow-pos, pow-add, pow-lt, shr-shr, mod-pow-add}
 use Rattle.orders.specs.Field.{field, joined}
 
 -- The operations

@@ -1,9 +1,8 @@
 -- An order's three bytes and its four fields (specs/Order.antt) are two ways to write the same 24 bits: each law cites FieldLaws at its own widths.
 -- Assumes nothing.
-use Prim.Native.Nat.{ℕ, _+_, _<_, _^_}
-use lib.Dec.{lit<}
+use Prim.Native.Nat.{ℕ, _<_, _^_}
 use lib.Pow.{pow-pos}
-use mathlib.Core.Path.{_≡_, refl, sym, ap, _∙_}
+use mathlib.Core.Path.{_≡_, sym, ap, _∙_}
 use Rattle.orders.specs.declared.Bytes.{Bytes}
 use Rattle.orders.specs.Field.{field, joined}
 use Rattle.orders.specs.Order.{order-of, bytes-of, kind, line, period, filler, order-with}

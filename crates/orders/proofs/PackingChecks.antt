@@ -2,12 +2,12 @@
 -- Assumes nothing.
 use Prim.Native.Nat.{ℕ, _<_, _≤_}
 use native.Mathlib.Omega.{arith}
-use mathlib.Core.Path.{_≡_, refl, sym, _∙_}
+use mathlib.Core.Path.{_≡_, refl}
 use mathlib.Core.Bool.{Bool, true, false}
 use lib.Dec.{eqb}
 use borrow.Author.Tests.{lt-ltb, le-ltb, eq-eqb, ne-eqb, eqb-true}
 use Rattle.tree.specs.Refusals.{first-refusal, line-above-63}
-use Rattle.tree.specs.Calls.{Outcome, gives, refuses, gives-unless}
+use Rattle.tree.specs.Calls.{gives, refuses, gives-unless}
 use Rattle.orders.specs.declared.Bytes.{Bytes}
 use Rattle.orders.specs.Order.{bytes-of, order-with}
 use Rattle.orders.specs.Packing.{kind-above-1, period-above-4095, close-with-period, packing-refusal, packing}

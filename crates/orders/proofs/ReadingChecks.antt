@@ -3,14 +3,13 @@
 use Prim.Native.Nat.{ℕ, _<_, _≤_}
 use native.Mathlib.Omega.{arith}
 use native.Mathlib.Decide.{decLt, ℕ-discrete}
-use mathlib.Core.Path.{_≡_, refl, sym, _∙_}
+use mathlib.Core.Path.{_≡_, _∙_}
 use mathlib.Core.Logic.{_⊎_, inl, inr, ⊎-elim}
-use mathlib.Core.Bool.{Bool, true, false}
 use borrow.Author.Tests.{lt-ltb, le-ltb, eq-eqb, ne-eqb}
 use Rattle.tree.specs.Refusals.{first-refusal}
-use Rattle.tree.specs.Calls.{Call, open-line, close-line, Outcome, gives, refuses, gives-unless}
+use Rattle.tree.specs.Calls.{Call, open-line, close-line, gives, refuses, gives-unless}
 use Rattle.orders.specs.Order.{kind, line, period, filler}
-use Rattle.orders.specs.Packing.{kind-above-1, close-with-period}
+use Rattle.orders.specs.Packing.{kind-above-1}
 use Rattle.orders.specs.Reading.{filler-set, reading-refusal, call-of, reading, Readable}
 use Rattle.orders.proofs.PackingChecks.{closes-with-period, closes-with-no-period}
 

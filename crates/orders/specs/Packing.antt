@@ -2,10 +2,10 @@
 -- Assumes nothing.
 use Prim.Native.Nat.{ℕ}
 use mathlib.Core.Bool.{Bool, not, _&&_}
-use mathlib.Core.List.{List, [], _∷_}
+use mathlib.Core.List.{[], _∷_}
 use mathlib.Core.Option.{Option}
 use lib.Dec.{eqb, ltb}
-use Rattle.tree.specs.Refusals.{Check, refuse, first-refusal, line-above-63}
+use Rattle.tree.specs.Refusals.{refuse, first-refusal, line-above-63}
 use Rattle.tree.specs.Calls.{Outcome, gives, refuses, gives-unless}
 use Rattle.orders.specs.declared.Bytes.{Bytes}
 use Rattle.orders.specs.declared.Packed.{Packed}

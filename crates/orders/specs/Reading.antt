@@ -4,10 +4,10 @@ use Prim.Native.Nat.{ℕ, zero, suc}
 use mathlib.Core.Bool.{Bool, not}
 use mathlib.Core.Logic.{_⊎_}
 use mathlib.Core.Path.{_≡_}
-use mathlib.Core.List.{List, [], _∷_}
+use mathlib.Core.List.{[], _∷_}
 use mathlib.Core.Option.{Option}
 use lib.Dec.{eqb}
-use Rattle.tree.specs.Refusals.{Check, refuse, first-refusal}
+use Rattle.tree.specs.Refusals.{refuse, first-refusal}
 use Rattle.tree.specs.Calls.{Call, open-line, close-line, Outcome, gives, refuses, gives-unless}
 use Rattle.orders.specs.declared.Reading.{Reading}
 use Rattle.orders.specs.declared.Reading.the-variants.{Open, Close, Refused}
