@@ -8,6 +8,7 @@
 pub mod ask;
 pub mod book;
 pub mod lists;
+pub mod order_counts;
 pub mod orders;
 pub mod random;
 pub mod refusal;

@@ -1,13 +1,14 @@
-//! The commands: `book`, `lists`, `script` and `answers`.
+//! The commands: `book`, `lists`, `orders`, `script` and `answers`.
 
 use second::orders::LONGEST_LIST;
 use second::shapes::Shape;
-use second::{book, lists, script};
+use second::{book, lists, order_counts, script};
 use std::io::{self, BufWriter, Read, Write};
 use std::process::ExitCode;
 
 const USAGE: &str = "usage: second book
        second lists SEED COUNT SHAPE
+       second orders
        second script cases
        second script SEED COUNT SHAPE
        second answers
@@ -16,6 +17,7 @@ SEED and COUNT are decimal, SHAPE is sparse, full, deep or primes";
 enum Call {
     Book,
     Lists(u64, u64, Shape),
+    Orders,
     MarkedCases,
     Script(u64, u64, Shape),
     Answers,
@@ -30,6 +32,7 @@ fn call(arguments: &[String]) -> Option<Call> {
             count.parse().ok()?,
             Shape::named(shape)?,
         )),
+        ["orders"] => Some(Call::Orders),
         ["script", "cases"] => Some(Call::MarkedCases),
         ["script", seed, count, shape] => Some(Call::Script(
             seed.parse().ok()?,
@@ -54,6 +57,7 @@ fn run(call: Call) -> io::Result<()> {
         // One byte above the longest list is enough to tell that a list is too long.
         Call::Book => book::print(&input(LONGEST_LIST as u64 + 1)?, &mut out)?,
         Call::Lists(seed, count, shape) => lists::print(seed, count, shape, &mut out)?,
+        Call::Orders => order_counts::print(&mut out)?,
         Call::MarkedCases => script::write(&script::marked_cases(), &mut out)?,
         Call::Script(seed, count, shape) => {
             script::write(&script::generated(seed, count, shape), &mut out)?;
