@@ -38,7 +38,7 @@ one-edge-edges w t positive here =
       line-once = λ L e k a b. only-edge-0 L e t a ∙ sym (only-edge-0 L k t b);
     }
 
-one-edge-proper : (w : ℕ) (t : Tree) → 0 < w → present t ≡ true → Proper t → Proper (one-edge w t)
+pub one-edge-proper : (w : ℕ) (t : Tree) → 0 < w → present t ≡ true → Proper t → Proper (one-edge w t)
 unfolding one-edge Proper
 one-edge-proper w t positive here proper =
     (positive, one-edge-edges w t positive here, put-each Proper 0 t (λ k. nothing) proper (λ e other. tt))

@@ -98,7 +98,7 @@ open-stands L t h =
     rw (x .1) (path-stands L t (x .0) (x .1))
 
 -- what stands is open: the search for its path finds one
-path-found : (L : ℕ) (t : Tree) (q u : ℕ) → Stands L t q u → path L t ≡ none → ⊥
+pub path-found : (L : ℕ) (t : Tree) (q u : ℕ) → Stands L t q u → path L t ≡ none → ⊥
 unfolding path Stands
 path-found L (line n) q u h e =
     Option·some-ne-none {A = List Row} [] (sym (ap (λ (b : Bool). if b then some [] else none) (eq-eqb n L (h .0))) ∙ e)

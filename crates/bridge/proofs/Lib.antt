@@ -1,0 +1,5 @@
+-- Paths after closing and opening
+pub mod Route
+pub mod RouteClosing
+pub mod RouteBooking
+pub mod RouteOpening
