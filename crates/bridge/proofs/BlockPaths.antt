@@ -21,6 +21,8 @@ use Rattle.bridge.proofs.Blocks.{block, block-length, rows-11-length}
 use Rattle.bridge.proofs.RowsOfNumbers.{row-in, row-in-numbers, numbers-by-rows, row-of-rows-11, row-of-beyond}
 use Rattle.bridge.proofs.WrittenPaths.{Written, row-of-path-from, path-from-length, path-from-weighted, path-from-of-rows}
 
+-- A line's rows are in its block
+
 number-in-block : (rows : List ℕ) (L i : ℕ) → i < 22 → getD (block rows L) i 0 ≡ getD rows (22 * L + i) 0
 unfolding block
 number-in-block rows L i within = getD-take 22 (drop (22 * L) rows) i 0 within ∙ getD-drop (22 * L) rows i 0
@@ -29,8 +31,6 @@ row-at-in-block : (rows : List ℕ) (L k : ℕ) → k < 11 → row-at rows L k �
 unfolding row-at row-in
 row-at-in-block rows L k within =
     cc (number-in-block rows L (2 * k) (omega arith), number-in-block rows L (2 * k + 1) (omega arith), add-assoc (22 * L) (2 * k) 1)
-
--- A line's rows are in its block
 
 pub row-at-block : (xs ys : List ℕ) (L k : ℕ) → k < 11 → block xs L ≡ block ys L → row-at xs L k ≡ row-at ys L k
 row-at-block xs ys L k within same =

@@ -42,6 +42,8 @@ numbers-by-rows (a ∷ b ∷ xs) (q ∷ qs) long same =
     let rest = numbers-by-rows xs qs (omega arith) (λ k below. sym (row-in-later a b xs k) ∙ same (suc k) (omega arith)) in
     cc
 
+-- The 11 rows of a path
+
 getD-replicate-default : {A : Type 0} (n k : ℕ) (d : A) → getD (replicate n d) k d ≡ d
 getD-replicate-default zero k d = refl
 getD-replicate-default (suc n) zero d = refl

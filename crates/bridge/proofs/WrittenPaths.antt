@@ -32,6 +32,8 @@ weight-above-0 [] k w below = absurd (omega arith)
 weight-above-0 (r ∷ rs) zero w below = w .0
 weight-above-0 (r ∷ rs) (suc k) w below = weight-above-0 rs k (w .1) (omega arith)
 
+-- Reading a path from a line's rows
+
 module _ (rows : List ℕ) (L : ℕ) where
   path-from-ends : (k n : ℕ) → row-at rows L k .weight ≡ 0 → path-from rows L k (suc n) ≡ []
   unfolding path-from
@@ -79,11 +81,13 @@ module _ (rows : List ℕ) (L : ℕ) where
   unfolding path-from row-of
   path-from-of-rows rs w same k zero sum = sym (drop-of-length-le rs {i = k} (omega arith))
   path-from-of-rows rs w same k (suc n) sum =
+      let here = same k (omega arith) in
       elim (decLt k (length rs)) [
         | yes below ↦
-            let above = weight-above-0 rs k (w .weighted) below in
-            path-from-goes-on k n (rw (same k (omega arith)) above)
-            ∙ ap₂ _∷_ (same k (omega arith)) (path-from-of-rows rs w same (suc k) n (omega arith))
+            path-from-goes-on k n (rw here (weight-above-0 rs k (w .weighted) below))
+            ∙ ap₂ _∷_ here (path-from-of-rows rs w same (suc k) n (omega arith))
             ∙ sym (drop-cons rs k (row 0 0) below)
-        | no beyond ↦ path-from-ends k n (ap (λ (r : Row). r .weight) (same k (omega arith) ∙ row-of-beyond rs k (omega arith))) ∙ sym (drop-of-length-le rs {i = k} (omega arith))
+        | no beyond ↦
+            path-from-ends k n (ap (λ (r : Row). r .weight) (here ∙ row-of-beyond rs k (omega arith)))
+            ∙ sym (drop-of-length-le rs {i = k} (omega arith))
       ]
