@@ -80,7 +80,7 @@ block-set-line-same rows L rs below size =
 block-set-line-before : (rows : List ℕ) (L M : ℕ) (rs : List Row) → L < 64 → M < L → length rows ≡ 1408 → block (set-line rows L rs) M ≡ block rows M
 unfolding set-line
 block-set-line-before rows L M rs below before size =
-    block-of-front (take (22 * L) rows) _ M within ∙ sym (rw (take-append-drop) at (block-of-front (take (22 * L) rows) (drop (22 * L) rows) M within))
+    block-of-front (take (22 * L) rows) _ M within ∙ sym (rw take-append-drop at (block-of-front (take (22 * L) rows) (drop (22 * L) rows) M within))
   where
     within : 22 * M + 22 ≤ length (take (22 * L) rows)
     within = omega (arith, front-length rows L below size)
