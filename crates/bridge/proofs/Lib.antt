@@ -3,3 +3,8 @@ pub mod Route
 pub mod RouteClosing
 pub mod RouteBooking
 pub mod RouteOpening
+-- A line's block of the record, and its path
+pub mod Blocks
+pub mod RowsOfNumbers
+pub mod WrittenPaths
+pub mod BlockPaths
