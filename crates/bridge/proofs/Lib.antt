@@ -1,1 +1,2 @@
 pub mod NodesOnPaths
+pub mod ClassOnPaths

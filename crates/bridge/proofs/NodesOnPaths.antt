@@ -136,6 +136,10 @@ pub record LineThrough (t : Tree) (a : Place) (w e : ℕ) : Type 0 where
   pub offset-is : sum (take (a .level) rows) ≡ a .offset
   pub row-is : row-of (a .level) rows ≡ row w e
 
+pub through-edge-below : (t : Tree) (a : Place) (w e : ℕ) → LineThrough t a w e → e < w
+through-edge-below t a w e x =
+    rw (x .row-is) at (path-node (x .line) t (a .level) (x .rows) (x .path-is) (x .level-below) .edge-below)
+
 proper-present-path : (t : Tree) → Proper t → present t ≡ true → (M : ℕ) × (rs : List Row) × (path M t ≡ some rs)
 unfolding is-open
 proper-present-path t proper here =
@@ -208,24 +212,60 @@ rows-same-node (suc l) (r ∷ rs) (q ∷ qs) same long-r long-q =
     rw (eq-eqb (r .edge) (q .edge) (ap (λ (x : Row). x .edge) first-row))
     (rows-same-node l rs qs later-rows (omega arith) (omega arith))
 
-same-node-rows : (M N : ℕ) (t : Tree) (l : ℕ) (rs qs : List Row) → path M t ≡ some rs → path N t ≡ some qs → same-node l rs qs ≡ true → (take l qs ≡ take l rs) × (l < length qs)
+pub same-node-long : (l : ℕ) (rs qs : List Row) → same-node l rs qs ≡ true → l < length qs
+unfolding same-node
+same-node-long l [] qs same = absurd (false≢true same)
+same-node-long l (r ∷ rs) [] same = absurd (false≢true same)
+same-node-long zero (r ∷ rs) (q ∷ qs) same = omega arith
+same-node-long (suc l) (r ∷ rs) (q ∷ qs) same =
+    let later = same-node-long l rs qs (and-eq-true-iff (eqb (r .edge) (q .edge)) (same-node l rs qs) .0 same .1) in
+    omega arith
+
+same-node-rows : (M N : ℕ) (t : Tree) (l : ℕ) (rs qs : List Row) → path M t ≡ some rs → path N t ≡ some qs → same-node l rs qs ≡ true → take l qs ≡ take l rs
 unfolding path same-node
 same-node-rows M N nothing l rs qs h k same = absurd (Option·none-ne-some rs h)
 same-node-rows M N (line n) l rs qs h k same =
     let no-row = path-of-line M n rs h .1 in
     absurd (false≢true (rw no-row at same))
-same-node-rows M N (node w f) zero rs qs h k same =
-    let y = path-below N w f qs k in
-    (refl, rw (y .rows-are) (omega arith))
+same-node-rows M N (node w f) zero rs qs h k same = refl
 same-node-rows M N (node w f) (suc l) rs qs h k same =
     let x = path-below M w f rs h in
     let y = path-below N w f qs k in
     let both = and-eq-true-iff (eqb (x .edge) (y .edge)) (same-node l (x .rest) (y .rest)) .0 (rw (x .rows-are, y .rows-are) at same) in
     let edge : x .edge ≡ y .edge = eqb-true (x .edge) (y .edge) (both .0) in
     let later = same-node-rows M N (f (x .edge)) l (x .rest) (y .rest) (x .path-is) (rw edge (y .path-is)) (both .1) in
-    rw (x .rows-are, y .rows-are) (ap₂ (λ e rows. row w e ∷ rows) (sym edge) (later .0), omega arith)
+    rw (x .rows-are, y .rows-are) (ap₂ (λ e rows. row w e ∷ rows) (sym edge) later)
 
-pub same-node-exactly : (M N : ℕ) (t : Tree) (l : ℕ) (rs qs : List Row) → path M t ≡ some rs → path N t ≡ some qs → l < length rs →
+pub same-node-exactly :
+    (M N : ℕ) (t : Tree) (l : ℕ) (rs qs : List Row) → path M t ≡ some rs → path N t ≡ some qs → l < length rs →
     (same-node l rs qs ≡ true) ↔ ((take l qs ≡ take l rs) × (l < length qs))
-same-node-exactly M N t l rs qs h k long =
-    (same-node-rows M N t l rs qs h k, λ both. rows-same-node l rs qs (both .0) long (both .1))
+same-node-exactly M N t l rs qs h k long = (
+  λ same. (same-node-rows M N t l rs qs h k same, same-node-long l rs qs same),
+  λ both. rows-same-node l rs qs (both .0) long (both .1),
+)
+
+-- The lines through the node at level l of line M's path are those whose paths have the same node there
+
+module _ (M : ℕ) (t : Tree) (l : ℕ) (rs : List Row) (h : path M t ≡ some rs) (long : l < length rs) where
+  pub same-node-through : (N : ℕ) (qs : List Row) → N < 64 → path N t ≡ some qs → same-node l rs qs ≡ true → LineThrough t (place-on l rs) (row-of l rs .weight) (row-of l qs .edge)
+  same-node-through N qs below k same =
+      let x = path-node M t l rs h long in
+      let long-too = same-node-long l rs qs same in
+      let y = path-node N t l qs k long-too in
+      let rows = same-node-rows M N t l rs qs h k same in
+      let one-node = sym (y .node-is) ∙ ap (λ (above : List Row). at (record { level = l; offset = sum above }) t) rows ∙ x .node-is in
+      let one-weight : row-of l qs .weight ≡ row-of l rs .weight = cc in
+      record {
+        line = N;
+        rows = qs;
+        line-below = below;
+        path-is = k;
+        level-below = long-too;
+        rows-above = rows ∙ sym (x .way-is);
+        offset-is = ap sum rows;
+        row-is = λ i. row (one-weight i) (row-of l qs .edge);
+      }
+
+  pub through-same-node : (w e : ℕ) (x : LineThrough t (place-on l rs) w e) → same-node l rs (x .rows) ≡ true
+  through-same-node w e x =
+      rows-same-node l rs (x .rows) (x .rows-above ∙ path-node M t l rs h long .way-is) long (x .level-below)
