@@ -1,2 +1,3 @@
 pub mod NodesOnPaths
 pub mod ClassOnPaths
+pub mod SearchOnPaths

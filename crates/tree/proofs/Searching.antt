@@ -73,7 +73,7 @@ module _ {A : Type 0} where
           let same = only (x .index) b (x .offers) in
           e ∙ sym (x .offers) ∙ ap offer same ∙ here
 
-pub if-some : (b : Bool) (i a : ℕ) → (if b then some i else none) ≡ some a → (b ≡ true) × (i ≡ a)
+pub if-some : {A : Type 0} (b : Bool) (i a : A) → (if b then some i else none) ≡ some a → (b ≡ true) × (i ≡ a)
 if-some true i a h = (refl, (cc))
 if-some false i a h = absurd (Option·none-ne-some a h)
 
