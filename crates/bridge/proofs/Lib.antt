@@ -8,3 +8,6 @@ pub mod Blocks
 pub mod RowsOfNumbers
 pub mod WrittenPaths
 pub mod BlockPaths
+pub mod NodesOnPaths
+pub mod ClassOnPaths
+pub mod SearchOnPaths

@@ -24,7 +24,7 @@ use Rattle.tree.proofs.Booking.{divisor-at-least-2}
 
 -- The chosen candidate has room
 
-at-proper : (l r : ℕ) (t : Tree) → Proper t → Proper (at-digits l r t)
+pub at-proper : (l r : ℕ) (t : Tree) → Proper t → Proper (at-digits l r t)
 unfolding at-digits Proper
 at-proper zero zero t proper = proper
 at-proper zero (suc r) t proper = tt

@@ -79,7 +79,7 @@ module _ {A : Type 0} where
   first-same zero f g same = refl
   first-same (suc n) f g same = ap₂ or-else (first-same n f g (λ i below. same i (omega arith))) (same n (omega arith))
 
-pub if-some : (b : Bool) (i a : ℕ) → (if b then some i else none) ≡ some a → (b ≡ true) × (i ≡ a)
+pub if-some : {A : Type 0} (b : Bool) (i a : A) → (if b then some i else none) ≡ some a → (b ≡ true) × (i ≡ a)
 if-some true i a h = (refl, (cc))
 if-some false i a h = absurd (Option·none-ne-some a h)
 
