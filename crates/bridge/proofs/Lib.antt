@@ -11,3 +11,8 @@ pub mod BlockPaths
 pub mod NodesOnPaths
 pub mod ClassOnPaths
 pub mod SearchOnPaths
+-- The record of the tree that a call leaves
+pub mod TreeOfRecord
+pub mod ClosedRecord
+pub mod BookedRecord
+pub mod FirstRecord
