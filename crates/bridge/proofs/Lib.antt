@@ -16,3 +16,4 @@ pub mod TreeOfRecord
 pub mod ClosedRecord
 pub mod BookedRecord
 pub mod FirstRecord
+pub mod CallsOnRecords

@@ -78,7 +78,7 @@ pub opened-empty : (L p : ℕ) → opened L p nothing ≡ one-edge p (line L)
 unfolding opened present
 opened-empty L p = refl
 
-start-empty : (p : ℕ) → start-given p nothing ≡ 0
+pub start-empty : (p : ℕ) → start-given p nothing ≡ 0
 unfolding start-given start-in chosen best
 start-empty p = refl
 
