@@ -2,7 +2,8 @@
 -- Assumes nothing.
 use Prim.Native.Nat.{ℕ, _%_, _<_}
 use native.Mathlib.Omega.{arith}
-use mathlib.Core.Path.{_≡_, refl, sym, _∙_, ap, fun-ext, subst}
+use mathlib.Core.Path.{_≡_, refl, sym, _∙_, ap, fun-ext}
+use mathlib.Core.Logic.{_↔_}
 use mathlib.Core.Bool.{Bool, true, false, not, _&&_, and-eq-true-iff}
 use mathlib.Core.List.{List, []}
 use mathlib.Core.Option.{Option, none, some, Option·map, Option·getD}
@@ -12,13 +13,13 @@ use borrow.Author.Tests.{eqb-true, eq-eqb}
 use Rattle.tree.specs.declared.Row.{Row}
 use Rattle.tree.specs.Numbers.{divides}
 use Rattle.tree.specs.Search.{if_then_else_, found, smallest}
-use Rattle.tree.specs.Tree.{Tree, node, product, path, path-of, Place, step}
+use Rattle.tree.specs.Tree.{Tree, present, product, path, path-of, Place, at, step}
 use Rattle.tree.specs.Shape.{Legal}
 use Rattle.tree.specs.Opening.{divisor, free, free-class, candidate, candidate-at, class-at}
 use Rattle.tree.specs.Paths.{Family, row-of, same-node, class-taken, class-on-path, Spot, spot-with, spot-at}
 use Rattle.tree.proofs.Searching.{some-below-true, some-below-at}
 use Rattle.tree.proofs.Classes.{present-taken, taken-present}
-use Rattle.bridge.proofs.NodesOnPaths.{place-on, NodeOnPath, path-node, same-node-long, line-through, through-present, through-edge-below, same-node-through, through-same-node}
+use Rattle.bridge.proofs.NodesOnPaths.{place-on, NodeOnPath, path-node, same-node-long, LineThrough, edge-present, through-edge-below, same-node-through, through-same-node}
 
 -- the family holds the path of every line below 64, and no rows for one that does not stand
 abbrev pub PathsOf : Tree → Family → Type 0
@@ -38,6 +39,9 @@ family-path t family paths M l below long = by-outcome (path M t) refl
         let none-there : l < 0 = rw closed at long in
         absurd (omega arith)
     by-outcome (some rs) e = e ∙ ap some (sym (path-family t family paths M rs below e))
+
+pub node-on-path : (t : Tree) (family : Family) → PathsOf t family → (M l : ℕ) → M < 64 → l < length (family M) → NodeOnPath M t l (family M)
+node-on-path t family paths M l below long = path-node M t l (family M) (family-path t family paths M l below long) long
 
 -- the spot of the node at level l of line M's path
 unfoldable pub spot-on : ℕ → Tree → ℕ → ℕ → List Row → Spot
@@ -59,8 +63,8 @@ offer-if true spot (some i) = refl
 offer-if false spot o = refl
 
 module _ (t : Tree) (legal : Legal t) (family : Family) (paths : PathsOf t family) (M l : ℕ) (below : M < 64) (long : l < length (family M)) where
-  pub here : NodeOnPath M t l (family M)
-  here = path-node M t l (family M) (family-path t family paths M l below long) long
+  abbrev here : NodeOnPath M t l (family M)
+  here = node-on-path t family paths M l below long
 
   abbrev weight : ℕ
   weight = row-of l (family M) .weight
@@ -70,6 +74,9 @@ module _ (t : Tree) (legal : Legal t) (family : Family) (paths : PathsOf t famil
 
   standing : path M t ≡ some (family M)
   standing = family-path t family paths M l below long
+
+  present-through : (e : ℕ) → e < weight → (present (here .edges e) ≡ true) ↔ LineThrough t place weight e
+  present-through = edge-present t legal place weight (here .edges) (here .node-is)
 
   -- Classes
 
@@ -82,14 +89,15 @@ module _ (t : Tree) (legal : Legal t) (family : Family) (paths : PathsOf t famil
       let standing-too = family-path t family paths (x .0) l (x .1) (same-node-long l (family M) qs (both .0)) in
       let through = same-node-through M t l (family M) standing long (x .0) qs (x .1) standing-too (both .0) in
       let e = row-of l qs .edge in
-      let taken = present-taken d weight (here .edges) e (through-edge-below t place weight e through) (through-present t legal place weight (here .edges) (here .node-is) e through) in
+      let edge-below = through-edge-below t place weight e through in
+      let taken = present-taken d weight (here .edges) e edge-below (present-through e edge-below .1 through) in
       rw (eqb-true (e % d) i (both .1)) at taken
 
   not-free-taken : (d i : ℕ) → free d weight (here .edges) i ≡ false → class-taken family (family M) l d i ≡ true
   unfolding class-taken
   not-free-taken d i h =
       let x = taken-present d weight (here .edges) i h in
-      let through = line-through t legal place weight (here .edges) (here .node-is) (x .0) (x .1) (x .3) in
+      let through = present-through (x .0) (x .1) .0 (x .3) in
       let rows = path-family t family paths (through .line) (through .rows) (through .line-below) (through .path-is) in
       some-below-at 64 _ (through .line) (through .line-below)
       (rw (rows, through-same-node M t l (family M) standing long weight (x .0) through, through .row-is) (eq-eqb (x .0 % d) i (x .2)))
@@ -103,14 +111,16 @@ module _ (t : Tree) (legal : Legal t) (family : Family) (paths : PathsOf t famil
       by-tests false true e k = refl
       by-tests false false e k = sym (not-free-taken d i k) ∙ e
 
-  pub class-on-path-is : (p m : ℕ) → class-on-path family (family M) l (divisor p m weight) ≡ free-class p m (node weight (here .edges))
+  -- the smallest class that no line takes is the node's smallest free class
+  pub class-on-path-is : (p m : ℕ) → class-on-path family (family M) l (divisor p m weight) ≡ free-class p m (at place t)
   unfolding class-on-path free-class
-  class-on-path-is p m = ap (smallest (divisor p m weight)) (fun-ext λ i. class-free-is (divisor p m weight) i)
+  class-on-path-is p m =
+      rw (here .node-is) (ap (smallest (divisor p m weight)) (fun-ext λ i. class-free-is (divisor p m weight) i))
 
   -- Candidates
 
   pub spot-at-is : (p : ℕ) → spot-at family p M l ≡ (if candidate-at p t place then some (spot-on p t M l (family M)) else none)
   unfolding spot-at spot-with candidate-at candidate class-at step spot-on
   spot-at-is p =
-      rw (here .way-is, here .node-is, class-on-path-is p (product (take l (family M))))
-      (offer-if (divides (product (take l (family M))) p) _ (free-class p (product (take l (family M))) (node weight (here .edges))))
+      let m = product (take l (family M)) in
+      rw (here .way-is, class-on-path-is p m) (offer-if (divides m p) _ (free-class p m (at place t)))

@@ -8,6 +8,7 @@ pub mod Blocks
 pub mod RowsOfNumbers
 pub mod WrittenPaths
 pub mod BlockPaths
+-- The search over paths finds the chosen candidate of the tree
 pub mod NodesOnPaths
 pub mod ClassOnPaths
 pub mod SearchOnPaths

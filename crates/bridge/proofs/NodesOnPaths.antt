@@ -5,16 +5,15 @@ use native.Mathlib.Omega.{arith}
 use native.Mathlib.Nat.{mod-lt, mod-add-div}
 use mathlib.Core.Path.{_≡_, refl, sym, _∙_, ap, ap₂, subst}
 use mathlib.Core.Logic.{_↔_}
-use mathlib.Core.Bool.{Bool, true, false, false≢true, _&&_, and-eq-true-iff}
+use mathlib.Core.Bool.{true, false≢true, and-eq-true-iff}
 use mathlib.Core.List.{List, [], _∷_, _++_}
-use mathlib.Core.Option.{Option, none, some, Option·map, Option·none-ne-some, map-eq-some-iff}
+use mathlib.Core.Option.{some, Option·map, Option·none-ne-some, map-eq-some-iff}
 use lib.Dec.{eqb}
 use lib.ListN.{length, take, drop, length-append}
 use lib.Seq.{take-at, getD-at}
 use borrow.Author.Tests.{eqb-true, eq-eqb}
 use Rattle.tree.specs.declared.Row.{Row}
 use Rattle.tree.specs.Tree.{Tree, nothing, line, node, present, row, sum-from, sum, path, is-open, Place, at-digits, at, way-by-digits, way}
-use Rattle.tree.specs.Search.{found}
 use Rattle.tree.specs.Opening.{under}
 use Rattle.tree.specs.Shape.{Edges, Legal}
 use Rattle.tree.specs.Paths.{row-of, same-node}
@@ -159,7 +158,7 @@ module _ (t : Tree) (legal : Legal t) (a : Place) (w : ℕ) (f : ℕ → Tree) (
   unfolding present
   place-present = ap present here
 
-  pub line-through : (e : ℕ) → e < w → present (f e) ≡ true → LineThrough t a w e
+  line-through : (e : ℕ) → e < w → present (f e) ≡ true → LineThrough t a w e
   unfolding Proper at way row-of
   line-through e below there =
       let x = proper-present-path (f e) (node-proper .2 e) there in
@@ -179,7 +178,7 @@ module _ (t : Tree) (legal : Legal t) (a : Place) (w : ℕ) (f : ℕ → Tree) (
         row-is = getD-at (way a t) (row w e) (x .1) (row 0 0) (a .level) long;
       }
 
-  pub through-present : (e : ℕ) → LineThrough t a w e → present (f e) ≡ true
+  through-present : (e : ℕ) → LineThrough t a w e → present (f e) ≡ true
   through-present e x =
       let y = path-node (x .line) t (a .level) (x .rows) (x .path-is) (x .level-below) in
       let same-place : place-on (a .level) (x .rows) ≡ a = λ i. record { level = a .level; offset = x .offset-is i } in
@@ -247,25 +246,28 @@ same-node-exactly M N t l rs qs h k long = (
 -- The lines through the node at level l of line M's path are those whose paths have the same node there
 
 module _ (M : ℕ) (t : Tree) (l : ℕ) (rs : List Row) (h : path M t ≡ some rs) (long : l < length rs) where
-  pub same-node-through : (N : ℕ) (qs : List Row) → N < 64 → path N t ≡ some qs → same-node l rs qs ≡ true → LineThrough t (place-on l rs) (row-of l rs .weight) (row-of l qs .edge)
+  pub same-node-through :
+      (N : ℕ) (qs : List Row) → N < 64 → path N t ≡ some qs → same-node l rs qs ≡ true →
+      LineThrough t (place-on l rs) (row-of l rs .weight) (row-of l qs .edge)
   same-node-through N qs below k same =
+      let both = same-node-exactly M N t l rs qs h k long .0 same in
       let x = path-node M t l rs h long in
-      let long-too = same-node-long l rs qs same in
-      let y = path-node N t l qs k long-too in
-      let rows = same-node-rows M N t l rs qs h k same in
-      let one-node = sym (y .node-is) ∙ ap (λ (above : List Row). at (record { level = l; offset = sum above }) t) rows ∙ x .node-is in
+      let y = path-node N t l qs k (both .1) in
+      let one-node =
+      sym (y .node-is) ∙ ap (λ (above : List Row). at (record { level = l; offset = sum above }) t) (both .0) ∙ x .node-is in
       let one-weight : row-of l qs .weight ≡ row-of l rs .weight = cc in
       record {
         line = N;
         rows = qs;
         line-below = below;
         path-is = k;
-        level-below = long-too;
-        rows-above = rows ∙ sym (x .way-is);
-        offset-is = ap sum rows;
+        level-below = both .1;
+        rows-above = both .0 ∙ sym (x .way-is);
+        offset-is = ap sum (both .0);
         row-is = λ i. row (one-weight i) (row-of l qs .edge);
       }
 
   pub through-same-node : (w e : ℕ) (x : LineThrough t (place-on l rs) w e) → same-node l rs (x .rows) ≡ true
   through-same-node w e x =
-      rows-same-node l rs (x .rows) (x .rows-above ∙ path-node M t l rs h long .way-is) long (x .level-below)
+      same-node-exactly M (x .line) t l rs (x .rows) h (x .path-is) long .1
+      (x .rows-above ∙ path-node M t l rs h long .way-is, x .level-below)

@@ -11,7 +11,7 @@ use Rattle.tree.specs.Numbers.{divides}
 use Rattle.tree.specs.Search.{if_then_else_, found}
 use Rattle.tree.specs.Tree.{Tree, nothing, line, node, sum, Place, at, way, step}
 use Rattle.tree.specs.Shape.{Legal}
-use Rattle.tree.specs.Opening.{divisor, free-class, candidate, candidate-at, before, NoCandidate, IsChosen, class-at, chosen}
+use Rattle.tree.specs.Opening.{divisor, free-class, candidate, candidate-at, before, NoCandidate, class-at, chosen}
 use Rattle.tree.specs.Paths.{Family, row-of, Spot, place-of, spot-at, better-spot, best-on-path, best-of-lines}
 use Rattle.tree.proofs.Searching.{if-some}
 use Rattle.tree.proofs.Proper.{legal-proper}
@@ -19,7 +19,7 @@ use Rattle.tree.proofs.PlaceOrder.{before-not-self}
 use Rattle.tree.proofs.Picking.{PicksBy, Either, earlier, picks-same, picks-earlier, Below, below-or-last, below-suc}
 use Rattle.tree.proofs.ChosenCandidate.{no-candidate-chosen-none, is-chosen-chosen}
 use Rattle.bridge.proofs.NodesOnPaths.{place-on, node-path}
-use Rattle.bridge.proofs.ClassOnPaths.{PathsOf, path-family, here, spot-on, spot-at-is}
+use Rattle.bridge.proofs.ClassOnPaths.{PathsOf, path-family, node-on-path, spot-on, spot-at-is}
 
 -- What the search over paths picks
 
@@ -31,6 +31,15 @@ picks-better-spot : (C D : Spot → Type 0) (o q : Option Spot) → PicksBy plac
 unfolding better-spot earlier
 picks-better-spot = picks-earlier place-of
 
+level-added : (C : Type 0) (E : ℕ → Type 0) (n : ℕ) → (C ⊎ Below n E) ⊎ E n → C ⊎ Below (suc n) E
+level-added C E n (inl (inl h)) = inl h
+level-added C E n (inl (inr h)) = inr (below-or-last n E (inl h))
+level-added C E n (inr h) = inr (below-or-last n E (inr h))
+
+last-level-apart : (C : Type 0) (E : ℕ → Type 0) (n : ℕ) → C ⊎ Below (suc n) E → (C ⊎ Below n E) ⊎ E n
+last-level-apart C E n (inl h) = inl (inl h)
+last-level-apart C E n (inr h) = ⊎-elim (λ k. inl (inr k)) (λ k. inr k) (below-suc n E h)
+
 module _ (family : Family) (p : ℕ) where
   -- the spot of a level below n of line M's path
   abbrev OnPath : ℕ → ℕ → Spot → Type 0
@@ -41,27 +50,19 @@ module _ (family : Family) (p : ℕ) where
   OnLines n s = Below n (λ M. OnPath M (length (family M)) s)
 
   module _ (C : Spot → Type 0) (so-far : Option Spot) (picked : PicksBy place-of C so-far) (M : ℕ) where
-    level-added : (n : ℕ) (s : Spot) → (C s ⊎ OnPath M n s) ⊎ (spot-at family p M n ≡ some s) → C s ⊎ OnPath M (suc n) s
-    level-added n s (inl (inl h)) = inl h
-    level-added n s (inl (inr h)) = inr (below-or-last n _ (inl h))
-    level-added n s (inr h) = inr (below-or-last n _ (inr h))
-
-    level-taken-off : (n : ℕ) (s : Spot) → C s ⊎ OnPath M (suc n) s → (C s ⊎ OnPath M n s) ⊎ (spot-at family p M n ≡ some s)
-    level-taken-off n s (inl h) = inl (inl h)
-    level-taken-off n s (inr h) = ⊎-elim (λ k. inl (inr k)) (λ k. inr k) (below-suc n _ h)
-
     picks-on-path : (n : ℕ) → PicksBy place-of (Either C (OnPath M n)) (best-on-path family p so-far M n)
     unfolding best-on-path
     picks-on-path zero = picks-same place-of C _ (λ s h. inl h) (λ s. ⊎-elim (λ h. h) (λ h. absurd (omega arith))) so-far picked
     picks-on-path (suc n) =
-        picks-same place-of _ _ (level-added n) (level-taken-off n) (best-on-path family p so-far M (suc n))
-        (picks-better-spot _ _ (best-on-path family p so-far M n) (spot-at family p M n) (picks-on-path n) (picks-offered (spot-at family p M n)))
+        let offer = spot-at family p M n in
+        picks-same place-of _ _ (λ s. level-added (C s) _ n) (λ s. last-level-apart (C s) _ n) (best-on-path family p so-far M (suc n))
+        (picks-better-spot _ _ (best-on-path family p so-far M n) offer (picks-on-path n) (picks-offered offer))
 
   picks-of-lines : (n : ℕ) → PicksBy place-of (OnLines n) (best-of-lines family p n)
   unfolding best-of-lines
   picks-of-lines zero = λ s h. omega arith
   picks-of-lines (suc n) =
-      picks-same place-of _ _ (λ s. below-or-last n (λ M. OnPath M (length (family M)) s)) (λ s. below-suc n (λ M. OnPath M (length (family M)) s)) (best-of-lines family p (suc n))
+      picks-same place-of _ _ (λ s. below-or-last n _) (λ s. below-suc n _) (best-of-lines family p (suc n))
       (picks-on-path (OnLines n) (best-of-lines family p n) (picks-of-lines n) n (length (family n)))
 
 -- Spots and candidates
@@ -73,6 +74,7 @@ candidate-node p m nothing h = absurd (false≢true (and-eq-true-iff (divides m 
 candidate-node p m (line n) h = absurd (false≢true (and-eq-true-iff (divides m p) false .0 h .1))
 candidate-node p m (node w f) h = (w, f, refl)
 
+-- the spot that the search found: the chosen candidate, with what the booking needs of it
 pub record FoundSpot (p : ℕ) (t : Tree) (family : Family) (s : Spot) : Type 0 where
   pub chosen-is : chosen p t ≡ some (place-of s)
   pub line-below : s .line < 64
@@ -100,7 +102,8 @@ module _ (t : Tree) (legal : Legal t) (family : Family) (paths : PathsOf t famil
       let offset : sum (take l (family M)) ≡ a .offset = rw rows (y .offset-is) in
       let same : place-on l (family M) ≡ a = λ i. record { level = l; offset = offset i } in
       let spot = spot-on p t M l (family M) in
-      let offered = spot-at-is t legal family paths M l (y .line-below) long p ∙ ap (λ b. if b then some spot else none) (ap (candidate-at p t) same ∙ h) in
+      let offered : spot-at family p M l ≡ some spot =
+      spot-at-is t legal family paths M l (y .line-below) long p ∙ ap (λ b. if b then some spot else none) (ap (candidate-at p t) same ∙ h) in
       (spot, (M, y .line-below, (l, long, offered)), same)
 
   -- The search finds the chosen candidate
@@ -115,7 +118,7 @@ module _ (t : Tree) (legal : Legal t) (family : Family) (paths : PathsOf t famil
   found-on-path : (M l : ℕ) → M < 64 → l < length (family M) → chosen p t ≡ some (place-on l (family M)) → FoundSpot p t family (spot-on p t M l (family M))
   unfolding place-of spot-on
   found-on-path M l below long h =
-      let x = here t legal family paths M l below long in
+      let x = node-on-path t family paths M l below long in
       record {
         chosen-is = h;
         line-below = below;
