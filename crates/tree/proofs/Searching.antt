@@ -5,9 +5,10 @@ use native.Mathlib.Omega.{arith}
 use native.Mathlib.Nat.{eq-or-lt-of-le, le-of-suc-le-suc}
 use mathlib.Core.Path.{_≡_, refl, sym, _∙_, ap}
 use mathlib.Core.Logic.{_⊎_, inl, inr}
-use mathlib.Core.Bool.{Bool, true, false, true≢false, false≢true}
+use mathlib.Core.Bool.{Bool, true, false, not, true≢false, false≢true}
 use mathlib.Core.Option.{Option, none, some, Option·some-ne-none, Option·none-ne-some}
-use Rattle.tree.specs.Search.{if_then_else_, found, or-else, first, smallest, some-below}
+use borrow.Author.Tests.{not-true, not-false}
+use Rattle.tree.specs.Search.{if_then_else_, found, or-else, first, smallest, some-below, all-below}
 
 -- what is below suc n is n or below n
 pub last-or-below : (i n : ℕ) → i < suc n → (i ≡ n) ⊎ (i < n)
@@ -132,3 +133,11 @@ some-below-none n test h = go (some-below n test) refl
         let z = h (x .0) (x .1) in
         let y = x .2 in
         cc
+
+pub all-below-at : (n : ℕ) (test : ℕ → Bool) → all-below n test ≡ true → (i : ℕ) → i < n → test i ≡ true
+unfolding all-below
+all-below-at n test h i below = not-false (test i) (some-below-false n (λ j. not (test j)) (not-true _ h) i below)
+
+pub all-below-true : (n : ℕ) (test : ℕ → Bool) → ((i : ℕ) → i < n → test i ≡ true) → all-below n test ≡ true
+unfolding all-below
+all-below-true n test h = ap not (some-below-none n (λ j. not (test j)) (λ i below. ap not (h i below)))

@@ -1,0 +1,3 @@
+-- The tree of a record
+pub mod NodePath
+pub mod SameTree
