@@ -4,13 +4,12 @@ use Prim.Native.Nat.{ℕ, _<_}
 use native.Mathlib.Omega.{arith}
 use native.Mathlib.Decide.{decLt}
 use mathlib.Core.Path.{_≡_, refl, sym, _∙_, ap, ap₂, fun-ext}
-use mathlib.Core.Bool.{Bool, true, false}
-use mathlib.Core.List.{List, [], _∷_}
+use mathlib.Core.Bool.{true}
+use mathlib.Core.List.{List, []}
 use mathlib.Core.Option.{Option, none, some}
 use borrow.Author.Tests.{eq-eqb}
 use Rattle.tree.specs.declared.Row.{Row}
-use Rattle.tree.specs.Search.{found}
-use Rattle.tree.specs.Tree.{Tree, nothing, line, node, present, row, path, is-open}
+use Rattle.tree.specs.Tree.{Tree, nothing, line, node, present, path, is-open}
 use Rattle.tree.specs.Shape.{Edges}
 use Rattle.tree.proofs.Searching.{found-some}
 use Rattle.tree.proofs.Proper.{Proper}
@@ -28,7 +27,7 @@ present-path t proper here =
     (x .0, p .0, p .1)
 
 -- the path of a line that stands at the root
-path-here : (n : ℕ) → path n (line n) ≡ some []
+pub path-here : (n : ℕ) → path n (line n) ≡ some []
 unfolding path
 path-here n = rw (eq-eqb n n refl)
 
@@ -58,8 +57,7 @@ module _ (w v : ℕ) (f g : ℕ → Tree) (same : (M : ℕ) → path M (node w f
   same-weight proper =
       let x = present-path (node w f) proper refl in
       let a = path-below (x .0) w f (x .1) (x .2) in
-      let there = path-under-edge (x .0) v g w (a .edge) (a .rest) (sym (same (x .0)) ∙ x .2 ∙ ap some (a .rows-are)) in
-      there .0
+      path-under-edge (x .0) v g w (a .edge) (a .rest) (sym (same (x .0)) ∙ x .2 ∙ ap some (a .rows-are)) .0
 
   path-in-other : Edges w f → (e M : ℕ) (rs : List Row) → e < w → path M (f e) ≡ some rs → path M (g e) ≡ some rs
   path-in-other edges e M rs below h =
