@@ -16,7 +16,7 @@ use Rattle.tree.specs.Tree.{row}
 use Rattle.tree.specs.Asking.{rows-11}
 use Rattle.tree.specs.Record.{row-at, path-from, path-at, unused, rest-unused, numbers}
 use Rattle.tree.specs.Paths.{row-of}
-use Rattle.tree.proofs.Searching.{all-below-same, all-below-true, all-below-each}
+use Rattle.tree.proofs.Searching.{all-below-same, all-below-at, all-below-each}
 use Rattle.bridge.proofs.Blocks.{block, block-length, rows-11-length}
 use Rattle.bridge.proofs.RowsOfNumbers.{row-in, row-in-numbers, numbers-by-rows, row-of-rows-11, row-of-beyond}
 use Rattle.bridge.proofs.WrittenPaths.{Written, row-of-path-from, path-from-length, path-from-weighted, path-from-of-rows}
@@ -93,7 +93,7 @@ row-of-path-at rows L k below = row-of-path-from rows L 0 11 k below ∙ rw zero
 row-beyond-path-at : (rows : List ℕ) (L : ℕ) → rest-unused rows L ≡ true → (k : ℕ) → k < 11 → length (path-at rows L) ≤ k → row-at rows L k ≡ row 0 0
 unfolding rest-unused
 row-beyond-path-at rows L rest k within beyond =
-    unused-is-zero (row-at rows L k) (rw (le-ltb k (length (path-at rows L)) beyond) at (all-below-true 11 _ rest k within))
+    unused-is-zero (row-at rows L k) (rw (le-ltb k (length (path-at rows L)) beyond) at (all-below-at 11 _ rest k within))
 
 row-at-of-path : (rows : List ℕ) (L : ℕ) → rest-unused rows L ≡ true → (k : ℕ) → k < 11 → row-at rows L k ≡ row-of k (path-at rows L)
 row-at-of-path rows L rest k within =

@@ -14,7 +14,7 @@ use Rattle.tree.specs.Asking.{rows-11}
 use Rattle.tree.specs.Closing.{closed}
 use Rattle.tree.specs.Record.{path-at, path-in-range, rest-unused, legal, treeOf, numbers, recordOf}
 use Rattle.tree.specs.Paths.{set-line}
-use Rattle.tree.proofs.Searching.{all-below-true}
+use Rattle.tree.proofs.Searching.{all-below-at}
 use Rattle.bridge.proofs.Blocks.{block, set-line-length, block-set-line-same, block-set-line-other, rows-by-blocks, record-length, block-of-record}
 use Rattle.bridge.proofs.BlockPaths.{block-of-path}
 use Rattle.bridge.proofs.TreeOfRecord.{treeOf-legal, treeOf-path-of}
@@ -25,7 +25,7 @@ use Rattle.bridge.proofs.RouteClosing.{closed-path-other, closed-path-g
 pub legal-block : (rows : List ℕ) (M : ℕ) → legal rows ≡ true → length rows ≡ 1408 → M < 64 → block rows M ≡ numbers (rows-11 (path-at rows M))
 unfolding legal
 legal-block rows M is-legal long below =
-    let each = all-below-true 64 _ (and-eq-true-iff _ _ .0 is-legal .0) M below in
+    let each = all-below-at 64 _ (and-eq-true-iff _ _ .0 is-legal .0) M below in
     block-of-path rows M below long (and-eq-true-iff (path-in-range (path-at rows M)) (rest-unused rows M) .0 each .1)
 
 pub block-of-tree : (plan : Plan) (M : ℕ) → legal (plan .rows) ≡ true → length (plan .rows) ≡ 1408 → M < 64 → block (plan .rows) M ≡ numbers (rows-11 (path-of M (treeOf plan)))

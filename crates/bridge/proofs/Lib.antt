@@ -3,17 +3,26 @@ pub mod Route
 pub mod RouteClosing
 pub mod RouteBooking
 pub mod RouteOpening
--- A line's block of the record, and its path
-pub mod Blocks
-pub mod RowsOfNumbers
-pub mod WrittenPaths
-pub mod BlockPaths
 -- The search over paths finds the chosen candidate of the tree
 pub mod NodesOnPaths
 pub mod ClassOnPaths
 pub mod SearchOnPaths
--- The record of the tree that a call leaves
+-- A line's block of the record, and its path
+pub mod RowsOfNumbers
+pub mod WrittenPaths
+pub mod Blocks
+pub mod BlockPaths
+-- The tree of a record
+pub mod NodePath
+pub mod SameTree
+pub mod Parting
+pub mod Stand
+pub mod LegalRecord
+pub mod StandLegal
+pub mod Grown
 pub mod TreeOfRecord
+pub mod LegalPaths
+-- The record of the tree that a call leaves
 pub mod ClosedRecord
 pub mod BookedRecord
 pub mod FirstRecord

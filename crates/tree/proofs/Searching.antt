@@ -139,9 +139,9 @@ some-below-none n test h = go (some-below n test) refl
         let y = x .2 in
         cc
 
-pub all-below-true : (n : ℕ) (test : ℕ → Bool) → all-below n test ≡ true → (i : ℕ) → i < n → test i ≡ true
+pub all-below-at : (n : ℕ) (test : ℕ → Bool) → all-below n test ≡ true → (i : ℕ) → i < n → test i ≡ true
 unfolding all-below
-all-below-true n test h i below = not-false (test i) (some-below-false n _ (not-true _ h) i below)
+all-below-at n test h i below = not-false (test i) (some-below-false n _ (not-true _ h) i below)
 
 pub all-below-each : (n : ℕ) (test : ℕ → Bool) → ((i : ℕ) → i < n → test i ≡ true) → all-below n test ≡ true
 unfolding all-below

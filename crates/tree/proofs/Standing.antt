@@ -43,11 +43,11 @@ path-of-line L n rs h = go (eqb n L) refl h
     go true e k = (eqb-true n L e, (cc))
     go false e k = absurd (Option·none-ne-some rs k)
 
-map-some : {A B : Type 0} (g : A → B) (o : Option A) (b : B) → Option·map g o ≡ some b → (a : A) × (o ≡ some a) × (b ≡ g a)
+pub map-some : {A B : Type 0} (g : A → B) (o : Option A) (b : B) → Option·map g o ≡ some b → (a : A) × (o ≡ some a) × (b ≡ g a)
 map-some g none b h = absurd (Option·none-ne-some b h)
 map-some g (some a) b h = (a, refl, (cc))
 
-map-none : {A B : Type 0} (g : A → B) (o : Option A) → Option·map g o ≡ none → o ≡ none
+pub map-none : {A B : Type 0} (g : A → B) (o : Option A) → Option·map g o ≡ none → o ≡ none
 map-none g none h = refl
 map-none g (some a) h = absurd (Option·some-ne-none (g a) h)
 
