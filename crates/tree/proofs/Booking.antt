@@ -33,11 +33,11 @@ pub record Room (d q w : ℕ) (f : ℕ → Tree) (i : ℕ) : Type 0 where
 
 -- The newcomer
 
-newcomer-line : (L q : ℕ) → q ≡ 1 → newcomer L q ≡ line L
+pub newcomer-line : (L q : ℕ) → q ≡ 1 → newcomer L q ≡ line L
 unfolding newcomer
 newcomer-line L q h = rw (eq-eqb q 1 h)
 
-newcomer-node : (L q : ℕ) → (q ≡ 1 → ⊥) → newcomer L q ≡ one-edge q (line L)
+pub newcomer-node : (L q : ℕ) → (q ≡ 1 → ⊥) → newcomer L q ≡ one-edge q (line L)
 unfolding newcomer
 newcomer-node L q h = rw (ne-eqb q 1 h)
 

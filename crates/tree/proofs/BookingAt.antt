@@ -79,6 +79,35 @@ candidate-fits p m (node w f) positive proper h =
     let x = found-some (free-class p m (node w f)) (both .1) in
     rw (x .1) (class-fits p m w f (x .0) positive (proper .0) (both .0) (x .1))
 
+-- A tree with line L and the lines that stood under edge k, put there
+
+-- a line under an edge afterwards was under that edge before, or is the new line in the edge that was put
+module _ (L w : ℕ) (f : ℕ → Tree) (k : ℕ) (t : Tree) (old-or-new : (K : ℕ) → is-open K t ≡ true → (is-open K (f k) ≡ true) ⊎ (K ≡ L)) where
+  under-before : (K e : ℕ) → is-open K (put k t f e) ≡ true → (is-open K (f e) ≡ true) ⊎ ((K ≡ L) × (e ≡ k))
+  under-before K e open-there =
+      elim (ℕ-discrete e k) [
+        | yes same ↦ inside same (old-or-new K (rw (put-same k e t f same) at open-there))
+        | no other ↦ inl (rw (put-other k e t f other) at open-there)
+      ]
+    where
+      inside : e ≡ k → (is-open K (f k) ≡ true) ⊎ (K ≡ L) → (is-open K (f e) ≡ true) ⊎ ((K ≡ L) × (e ≡ k))
+      inside same (inl h) = inl (rw same h)
+      inside same (inr h) = inr (h, same)
+
+  pub put-edges : k < w → present t ≡ true → ((e : ℕ) → is-open L (f e) ≡ true → ⊥) → Edges w f → Edges w (put k t f)
+  put-edges below here new edges =
+      record {
+        below-weight = λ e beyond. put-other k e t f (λ same. omega arith) ∙ edges .below-weight e beyond;
+        not-empty = some-below-at w _ k below (ap present (put-same k k t f refl) ∙ here);
+        line-once = λ K a b open-a open-b. once K a b (under-before K a open-a) (under-before K b open-b);
+      }
+    where
+      once : (K a b : ℕ) → (is-open K (f a) ≡ true) ⊎ ((K ≡ L) × (a ≡ k)) → (is-open K (f b) ≡ true) ⊎ ((K ≡ L) × (b ≡ k)) → a ≡ b
+      once K a b (inl x) (inl y) = edges .line-once K a b x y
+      once K a b (inl x) (inr y) = absurd (new a (rw (y .0) at x))
+      once K a b (inr x) (inl y) = absurd (new b (rw (x .0) at y))
+      once K a b (inr x) (inr y) = x .1 ∙ sym (y .1)
+
 -- The booking at a level and an offset
 
 -- the weights above what stands there, multiplied
@@ -240,33 +269,6 @@ module _ (L p i : ℕ) where
   booked-present (node w f) m zero r fit = refl
   booked-present (node w f) m (suc l) r fit = refl
 
-  -- a line under an edge after the booking was under that edge before, or is the new line in the edge that was booked into
-  module _ (w : ℕ) (f : ℕ → Tree) (k : ℕ) (t : Tree) (old-or-new : (K : ℕ) → is-open K t ≡ true → (is-open K (f k) ≡ true) ⊎ (K ≡ L)) where
-    under-before : (K e : ℕ) → is-open K (put k t f e) ≡ true → (is-open K (f e) ≡ true) ⊎ ((K ≡ L) × (e ≡ k))
-    under-before K e open-there =
-        elim (ℕ-discrete e k) [
-          | yes same ↦ inside same (old-or-new K (rw (put-same k e t f same) at open-there))
-          | no other ↦ inl (rw (put-other k e t f other) at open-there)
-        ]
-      where
-        inside : e ≡ k → (is-open K (f k) ≡ true) ⊎ (K ≡ L) → (is-open K (f e) ≡ true) ⊎ ((K ≡ L) × (e ≡ k))
-        inside same (inl h) = inl (rw same h)
-        inside same (inr h) = inr (h, same)
-
-    put-edges : k < w → present t ≡ true → ((e : ℕ) → is-open L (f e) ≡ true → ⊥) → Edges w f → Edges w (put k t f)
-    put-edges below here new edges =
-        record {
-          below-weight = λ e beyond. put-other k e t f (λ same. omega arith) ∙ edges .below-weight e beyond;
-          not-empty = some-below-at w _ k below (ap present (put-same k k t f refl) ∙ here);
-          line-once = λ K a b open-a open-b. once K a b (under-before K a open-a) (under-before K b open-b);
-        }
-      where
-        once : (K a b : ℕ) → (is-open K (f a) ≡ true) ⊎ ((K ≡ L) × (a ≡ k)) → (is-open K (f b) ≡ true) ⊎ ((K ≡ L) × (b ≡ k)) → a ≡ b
-        once K a b (inl x) (inl y) = edges .line-once K a b x y
-        once K a b (inl x) (inr y) = absurd (new a (rw (y .0) at x))
-        once K a b (inr x) (inl y) = absurd (new b (rw (x .0) at y))
-        once K a b (inr x) (inr y) = x .1 ∙ sym (y .1)
-
   booked-open : (t : Tree) (m l r K : ℕ) → FitIn p (m * steps l r t) i (at-digits l r t) → is-open K (book-by-digits L p i m l r t) ≡ true → (is-open K t ≡ true) ⊎ (K ≡ L)
   booked-open t m l r K fit h =
       let sub = book-by-digits L p i m l r t in
@@ -293,7 +295,7 @@ module _ (L p i : ℕ) where
       let sub = book-by-digits L p i (m * w) l (r / w) (f e) in
       let absent = not-open-below L w f (legal .1) new in (
         legal .0,
-        put-edges w f e sub (λ K h. booked-open (f e) (m * w) l (r / w) K fit-below h) edge-below (booked-present (f e) (m * w) l (r / w) fit-below) absent (legal .1),
+        put-edges L w f e sub (λ K h. booked-open (f e) (m * w) l (r / w) K fit-below h) edge-below (booked-present (f e) (m * w) l (r / w) fit-below) absent (legal .1),
         put-each (LegalUnder (m * w)) e sub f
             (booked-legal (f e) (m * w) l (r / w) number range (not-eq-not .0 (absent e)) fit-below (legal .2 e))
             (λ k other. legal .2 k),

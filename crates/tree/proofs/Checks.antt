@@ -1,13 +1,13 @@
 -- The checks of open and close (specs/Refusals.antt): what a call that passes them may count on, and what a refusal says.
 -- Assumes nothing.
-use Prim.Native.Nat.{ℕ, _≤_}
+use Prim.Native.Nat.{ℕ, _<_, _≤_}
 use native.Mathlib.Omega.{arith}
 use mathlib.Core.Path.{_≡_, refl}
 use mathlib.Core.Bool.{Bool, true, false, not, _||_, true≢false}
 use mathlib.Core.List.{List, [], _∷_, _++_}
 use mathlib.Core.Option.{Option, none, some, Option·some-ne-none}
 use lib.Dec.{eqb, ltb}
-use borrow.Author.Tests.{eqb-false, ltb-false, le-ltb}
+use borrow.Author.Tests.{eqb-false, ltb-false, lt-ltb, le-ltb, eq-eqb, ne-eqb}
 use Rattle.tree.specs.Search.{if_then_else_, or-else}
 use Rattle.tree.specs.Tree.{Tree, is-open}
 use Rattle.tree.specs.Shape.{Legal}
@@ -60,6 +60,47 @@ open-may L p t legal h =
       not-open = three .0;
       has-room = five .0;
     }
+
+-- Each refusal of an open, in its sequence
+
+pub open-refused-1 : (L p : ℕ) (t : Tree) → 63 < L → open-refusal L p t ≡ some 1
+unfolding open-refusal first-refusal earlier-checks line-above-63
+open-refused-1 L p t above = rw (lt-ltb 63 L above)
+
+pub open-refused-2 : (L p : ℕ) (t : Tree) → L ≤ 63 → period-out-of-range p ≡ true → open-refusal L p t ≡ some 2
+unfolding open-refusal first-refusal earlier-checks line-above-63
+open-refused-2 L p t number out = rw (le-ltb 63 L number, out)
+
+pub open-refused-3 : (L p : ℕ) (t : Tree) → L ≤ 63 → period-out-of-range p ≡ false → is-open L t ≡ true → open-refusal L p t ≡ some 3
+unfolding open-refusal first-refusal earlier-checks line-above-63
+open-refused-3 L p t number inside there = rw (le-ltb 63 L number, inside, there)
+
+-- the last check decides where no earlier one refuses
+pub open-last-check : (L p : ℕ) (t : Tree) → L ≤ 63 → period-out-of-range p ≡ false → is-open L t ≡ false → open-refusal L p t ≡ (if no-room p t then some 5 else none)
+unfolding open-refusal first-refusal earlier-checks line-above-63
+open-last-check L p t number inside absent = rw (le-ltb 63 L number, inside, absent)
+
+pub zero-out-of-range : (p : ℕ) → p ≡ 0 → period-out-of-range p ≡ true
+unfolding period-out-of-range
+zero-out-of-range p h = rw (eq-eqb p 0 h)
+
+pub above-out-of-range : (p : ℕ) → 0 < p → 4095 < p → period-out-of-range p ≡ true
+unfolding period-out-of-range
+above-out-of-range p positive above = rw (ne-eqb p 0 (λ zero. omega arith), lt-ltb 4095 p above)
+
+pub period-in-range : (p : ℕ) → 0 < p → p ≤ 4095 → period-out-of-range p ≡ false
+unfolding period-out-of-range
+period-in-range p positive most = rw (ne-eqb p 0 (λ zero. omega arith), le-ltb 4095 p most)
+
+-- The refusals of close, show and turns
+
+pub line-refused-1 : (L : ℕ) (t : Tree) → 63 < L → line-refusal L t ≡ some 1
+unfolding line-refusal first-refusal line-above-63
+line-refused-1 L t above = rw (lt-ltb 63 L above)
+
+pub line-refused-4 : (L : ℕ) (t : Tree) → L ≤ 63 → is-open L t ≡ false → line-refusal L t ≡ some 4
+unfolding line-refusal first-refusal line-above-63
+line-refused-4 L t number absent = rw (le-ltb 63 L number, absent)
 
 pub close-allowed : (L : ℕ) (t : Tree) → L ≤ 63 → is-open L t ≡ true → line-refusal L t ≡ none
 unfolding line-refusal first-refusal line-above-63

@@ -2,68 +2,35 @@
 -- Assumes nothing.
 use Prim.Native.Nat.{ℕ, zero, suc, _*_, _/_, _%_, _<_}
 use native.Mathlib.Nat.{one-mul, mul-one, mul-assoc, mod-lt, mod-add-div}
-use native.Mathlib.Decide.{ℕ-discrete}
 use native.Mathlib.Omega.{arith}
-use mathlib.Core.Path.{_≡_, refl, sym, _∙_, ap, ap₂, subst}
+use mathlib.Core.Path.{_≡_, refl, sym, _∙_, ap, ap₂}
 use mathlib.Core.Bool.{Bool, true, false, false≢true, not-eq-not, and-false}
-use mathlib.Core.Logic.{_⊎_, inl, inr, ⊎-elim}
+use mathlib.Core.Logic.{inl, inr}
 use mathlib.Core.Option.{Option, none, some, Option·map}
 use Rattle.tree.specs.Numbers.{divides}
 use Rattle.tree.specs.Search.{if_then_else_, found}
 use Rattle.tree.specs.Tree.{Tree, nothing, line, node, Place, product, at-digits, at, way-by-digits, way, step}
-use Rattle.tree.specs.Opening.{free-class, candidate, candidate-at, NoCandidate, before, IsChosen, better, best-below, under, best, chosen}
+use Rattle.tree.specs.Opening.{free-class, candidate, candidate-at, NoCandidate, IsChosen, better, best-below, under, best, chosen}
 use Rattle.tree.proofs.Digits.{digit-low, digit-high}
 use Rattle.tree.proofs.Proper.{Proper}
-use Rattle.tree.proofs.PlaceOrder.{before-not-self, before-total, before-asym, not-before-trans, under-keeps-order}
+use Rattle.tree.proofs.PlaceOrder.{before-not-self, before-total, under-keeps-order}
+use Rattle.tree.proofs.Picking.{PicksBy, Either, earlier, picks-same, picks-earlier, Below, below-or-last, below-suc}
 
--- What a search picks
+-- What a search for a place picks
 
--- the search for a place with property C ends so: no place has it, or this one has it and none before it has
 abbrev Picks : (Place → Type 0) → Option Place → Type 0
-Picks C none = (b : Place) → C b → ⊥
-Picks C (some a) = C a × ((b : Place) → C b → before b a ≡ false)
+Picks = PicksBy (λ b. b)
 
-module _ (C D : Place → Type 0) where
-  picks-same : ((b : Place) → C b → D b) → ((b : Place) → D b → C b) → (o : Option Place) → Picks C o → Picks D o
-  picks-same to from none P = λ b h. P b (from b h)
-  picks-same to from (some a) P = (to a (P .0), λ b h. P .1 b (from b h))
-
-  abbrev Either : Place → Type 0
-  Either b = C b ⊎ D b
-
-  picks-earlier : (a b : Place) → Picks C (some a) → Picks D (some b) → (t : Bool) → before b a ≡ t → Picks Either (if t then some b else some a)
-  picks-earlier a b P Q true e =
-      (inr (Q .0), λ c. ⊎-elim (λ h. not-before-trans c a b (P .1 c h) (before-asym b a e)) (Q .1 c))
-  picks-earlier a b P Q false e = (inl (P .0), λ c. ⊎-elim (P .1 c) (λ h. not-before-trans c b a (Q .1 c h) e))
-
-  picks-better : (o q : Option Place) → Picks C o → Picks D q → Picks Either (better o q)
-  unfolding better
-  picks-better none none P Q = λ c. ⊎-elim (P c) (Q c)
-  picks-better none (some b) P Q = (inr (Q .0), λ c. ⊎-elim (λ h. absurd (P c h)) (Q .1 c))
-  picks-better (some a) none P Q = (inl (P .0), λ c. ⊎-elim (P .1 c) (λ h. absurd (Q c h)))
-  picks-better (some a) (some b) P Q = picks-earlier a b P Q (before b a) refl
-
--- some number below n has property E
-abbrev Below : ℕ → (ℕ → Type 0) → Type 0
-Below n E = (e : ℕ) × (e < n) × E e
-
-below-or-last : (n : ℕ) (E : ℕ → Type 0) → Below n E ⊎ E n → Below (suc n) E
-below-or-last n E (inl h) = (h .0, omega arith, h .2)
-below-or-last n E (inr h) = (n, omega arith, h)
-
-below-suc : (n : ℕ) (E : ℕ → Type 0) → Below (suc n) E → Below n E ⊎ E n
-below-suc n E h = by-equality (ℕ-discrete (h .0) n)
-  where
-    by-equality : Dec (h .0 ≡ n) → Below n E ⊎ E n
-    by-equality (yes e) = inr (subst E e (h .2))
-    by-equality (no d) = inl (h .0, omega arith, h .2)
+picks-better : (C D : Place → Type 0) (o q : Option Place) → Picks C o → Picks D q → Picks (Either C D) (better o q)
+unfolding better earlier
+picks-better = picks-earlier (λ b. b)
 
 module _ (C : ℕ → Place → Type 0) (offer : ℕ → Option Place) (P : (e : ℕ) → Picks (C e) (offer e)) where
   picks-below : (n : ℕ) → Picks (λ b. Below n (λ e. C e b)) (best-below n offer)
   unfolding best-below
   picks-below zero = λ b h. omega arith
   picks-below (suc n) =
-      picks-same _ _ (λ b. below-or-last n (λ e. C e b)) (λ b. below-suc n (λ e. C e b)) (best-below (suc n) offer)
+      picks-same (λ b. b) _ _ (λ b. below-or-last n (λ e. C e b)) (λ b. below-suc n (λ e. C e b)) (best-below (suc n) offer)
       (picks-better _ _ (best-below n offer) (offer n) (picks-below n) (P n))
 
 -- a place that has property C where it is counted from edge e of a node of weight w
@@ -137,7 +104,7 @@ module _ (p m w : ℕ) (f : ℕ → Tree) where
       Picks (CandidateFrom p m (node w f)) (best p m (node w f))
   unfolding best
   node-picks v P =
-      picks-same FromNode _ (from-node v) (λ b. node-or-under v (b .level) (b .offset)) (best p m (node w f))
+      picks-same (λ b. b) FromNode _ (from-node v) (λ b. node-or-under v (b .level) (b .offset)) (best p m (node w f))
       (picks-better _ _ _ _ (picks-root (candidate p m (node w f)))
       (picks-below _ _ (λ e. picks-under w e _ v (best p (m * w) (f e)) (P e)) w))
 
@@ -152,7 +119,7 @@ best-picks p m (node w f) v = node-picks p m w f (v .0) (λ e. best-picks p (m *
 chosen-picks : (p : ℕ) (t : Tree) → Proper t → Picks (λ b. candidate-at p t b ≡ true) (chosen p t)
 unfolding chosen candidate-at
 chosen-picks p t v =
-    picks-same (CandidateFrom p 1 t) _ (λ b h. rw one-mul at h) (λ b h. rw one-mul h) (best p 1 t) (best-picks p 1 t v)
+    picks-same (λ b. b) (CandidateFrom p 1 t) _ (λ b h. rw one-mul at h) (λ b h. rw one-mul h) (best p 1 t) (best-picks p 1 t v)
 
 -- The search finds the chosen place, and none only where no node is a candidate
 

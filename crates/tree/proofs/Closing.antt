@@ -29,7 +29,7 @@ prune-either P w g kept gone = go (some-below w (λ e. present (g e))) refl
     go true e = kept e
     go false e = gone
 
-prune-kept : (w : ℕ) (g : ℕ → Tree) → some-below w (λ e. present (g e)) ≡ true → prune w g ≡ node w g
+pub prune-kept : (w : ℕ) (g : ℕ → Tree) → some-below w (λ e. present (g e)) ≡ true → prune w g ≡ node w g
 unfolding prune
 prune-kept w g h = rw h
 

@@ -4,16 +4,16 @@ use Prim.Native.Nat.{ℕ, _+_, _*_, _^_, _<_, _≤_}
 use native.Mathlib.Omega.{arith}
 use native.Mathlib.Nat.{pow-succ', mul-assoc, mul-one, mul-le-mul-left, mul-le-mul-right}
 use native.Mathlib.Decide.{decLt}
-use mathlib.Core.Path.{_≡_, refl, ap}
+use mathlib.Core.Path.{_≡_, refl, _∙_, ap}
 use mathlib.Core.Logic.{_⊎_, inl, inr}
 use mathlib.Core.Bool.{true}
-use mathlib.Core.List.{List, []}
+use mathlib.Core.List.{List, [], _∷_}
 use mathlib.Core.Option.{none, some, Option·getD, Option·none-ne-some}
 use lib.ListN.{length}
 use lib.Pow.{pow-mono}
 use Rattle.tree.specs.declared.Row.{Row}
 use Rattle.tree.specs.Search.{found, total-below}
-use Rattle.tree.specs.Tree.{Tree, nothing, line, node, present, path, is-open, path-of, period-of, start-of, nodes}
+use Rattle.tree.specs.Tree.{Tree, nothing, line, node, present, row, path, is-open, path-of, period-of, start-of, nodes}
 use Rattle.tree.specs.Standing.{Stands}
 use Rattle.tree.specs.Opening.{put, one-edge}
 use Rattle.tree.specs.Shape.{Edges, LegalUnder, Alone, Legal}
@@ -35,14 +35,16 @@ rows-fit m (node w f) L rs legal h =
     rw (x .rows-are, pow-succ', ← mul-assoc)
     (omega (arith, mul-le-mul-right (2 ^ length (x .rest)) (mul-le-mul-left m (legal .0))))
 
-alone-one-row : (t : Tree) (L : ℕ) (rs : List Row) → Alone t → path L t ≡ some rs → length rs ≡ 1
+-- the line of a root of weight 1 has that root's row for a path
+pub alone-path : (t : Tree) (L : ℕ) (rs : List Row) → Alone t → path L t ≡ some rs → rs ≡ row 1 0 ∷ []
 unfolding one-edge
-alone-one-row t L rs alone h =
+alone-path t L rs alone h =
     let x = path-below L 1 _ rs (rw (alone .tree) at h) in
     let below = x .edge-below in
-    let at-line = put-same 0 (x .edge) (line (alone .number)) (λ e. nothing) (omega arith) in
+    let edge-0 : x .edge ≡ 0 = omega arith in
+    let at-line = put-same 0 (x .edge) (line (alone .number)) (λ e. nothing) edge-0 in
     let ends = path-of-line L (alone .number) (x .rest) (unfold path in (rw at-line at (x .path-is))) in
-    rw (x .rows-are, ends .1)
+    x .rows-are ∙ rw (edge-0, ends .1)
 
 -- at most 11 nodes above an open line
 pub at-most-11-above : (t : Tree) (L : ℕ) (rs : List Row) → Legal t → path L t ≡ some rs → length rs ≤ 11
@@ -50,7 +52,7 @@ unfolding Legal path
 at-most-11-above nothing L rs legal h = absurd (Option·none-ne-some rs h)
 at-most-11-above (line n) L rs legal h = absurd legal
 at-most-11-above (node w f) L rs (inr alone) h =
-    omega (arith, alone-one-row (node w f) L rs alone h)
+    omega (arith, ap length (alone-path (node w f) L rs alone h))
 at-most-11-above (node w f) L rs (inl legal) h =
     elim (decLt (length rs) 12) [
       | yes less ↦ omega arith

@@ -12,6 +12,7 @@ pub mod Standing
 pub mod Ownership
 -- Opening
 pub mod PlaceOrder
+pub mod Picking
 pub mod ChosenCandidate
 pub mod Classes
 pub mod Split

@@ -24,7 +24,7 @@ use Rattle.tree.proofs.Booking.{divisor-at-least-2}
 
 -- The chosen candidate has room
 
-at-proper : (l r : ℕ) (t : Tree) → Proper t → Proper (at-digits l r t)
+pub at-proper : (l r : ℕ) (t : Tree) → Proper t → Proper (at-digits l r t)
 unfolding at-digits Proper
 at-proper zero zero t proper = proper
 at-proper zero (suc r) t proper = tt
@@ -32,7 +32,7 @@ at-proper (suc l) r nothing proper = tt
 at-proper (suc l) r (line n) proper = tt
 at-proper (suc l) r (node w f) proper = at-proper l (r / w) (f (r % w)) (proper .2 (r % w))
 
-chosen-fits : (p : ℕ) (t : Tree) (a : Place) → 0 < p → Proper t → chosen p t ≡ some a →
+pub chosen-fits : (p : ℕ) (t : Tree) (a : Place) → 0 < p → Proper t → chosen p t ≡ some a →
     FitIn p (1 * steps (a .level) (a .offset) t) (class-at p t a) (at-digits (a .level) (a .offset) t)
 unfolding class-at candidate-at at step way
 chosen-fits p t a positive proper e =
@@ -74,11 +74,11 @@ room-chosen : (p : ℕ) (t : Tree) → present t ≡ true → no-room p t ≡ fa
 unfolding no-room
 room-chosen p t here h = found-some (chosen p t) (not-false _ (rw here at h))
 
-opened-empty : (L p : ℕ) → opened L p nothing ≡ one-edge p (line L)
+pub opened-empty : (L p : ℕ) → opened L p nothing ≡ one-edge p (line L)
 unfolding opened present
 opened-empty L p = refl
 
-start-empty : (p : ℕ) → start-given p nothing ≡ 0
+pub start-empty : (p : ℕ) → start-given p nothing ≡ 0
 unfolding start-given start-in chosen best
 start-empty p = refl
 

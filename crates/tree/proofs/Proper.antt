@@ -18,7 +18,7 @@ Proper nothing = Unit {0}
 Proper (line n) = Unit {0}
 Proper (node w f) = (0 < w) × Edges w f × ((e : ℕ) → Proper (f e))
 
--- A node with the one edge 0
+-- A node with one edge
 
 pub nothing-open : (L : ℕ) (t : Tree) → t ≡ nothing → is-open L t ≡ true → ⊥
 unfolding is-open path found
@@ -26,19 +26,22 @@ nothing-open L t e h =
     let none-found : false ≡ true = rw e at h in
     false≢true none-found
 
-only-edge-0 : (L e : ℕ) (t : Tree) → is-open L (put 0 t (λ k. nothing) e) ≡ true → e ≡ 0
-only-edge-0 L e t h =
-    elim (ℕ-discrete e 0) [ yes z ↦ z | no z ↦ absurd (nothing-open L _ (put-other 0 e t (λ k. nothing) z) h) ]
+only-edge : (L i e : ℕ) (t : Tree) → is-open L (put i t (λ k. nothing) e) ≡ true → e ≡ i
+only-edge L i e t h =
+    elim (ℕ-discrete e i) [ yes z ↦ z | no z ↦ absurd (nothing-open L _ (put-other i e t (λ k. nothing) z) h) ]
 
-pub one-edge-edges : (w : ℕ) (t : Tree) → 0 < w → present t ≡ true → Edges w (put 0 t (λ e. nothing))
-one-edge-edges w t positive here =
+pub only-edge-edges : (w i : ℕ) (t : Tree) → i < w → present t ≡ true → Edges w (put i t (λ e. nothing))
+only-edge-edges w i t below here =
     record {
-      below-weight = λ e h. put-other 0 e t (λ k. nothing) (λ z. omega arith);
-      not-empty = some-below-at w _ 0 positive (ap present (put-same 0 0 t (λ k. nothing) refl) ∙ here);
-      line-once = λ L e k a b. only-edge-0 L e t a ∙ sym (only-edge-0 L k t b);
+      below-weight = λ e h. put-other i e t (λ k. nothing) (λ z. omega arith);
+      not-empty = some-below-at w _ i below (ap present (put-same i i t (λ k. nothing) refl) ∙ here);
+      line-once = λ L e k a b. only-edge L i e t a ∙ sym (only-edge L i k t b);
     }
 
-one-edge-proper : (w : ℕ) (t : Tree) → 0 < w → present t ≡ true → Proper t → Proper (one-edge w t)
+pub one-edge-edges : (w : ℕ) (t : Tree) → 0 < w → present t ≡ true → Edges w (put 0 t (λ e. nothing))
+one-edge-edges w t positive here = only-edge-edges w 0 t positive here
+
+pub one-edge-proper : (w : ℕ) (t : Tree) → 0 < w → present t ≡ true → Proper t → Proper (one-edge w t)
 unfolding one-edge Proper
 one-edge-proper w t positive here proper =
     (positive, one-edge-edges w t positive here, put-each Proper 0 t (λ k. nothing) proper (λ e other. tt))

@@ -3,11 +3,12 @@
 use Prim.Native.Nat.{ℕ, zero, suc, _<_}
 use native.Mathlib.Omega.{arith}
 use native.Mathlib.Nat.{eq-or-lt-of-le, le-of-suc-le-suc}
-use mathlib.Core.Path.{_≡_, refl, sym, _∙_, ap}
+use mathlib.Core.Path.{_≡_, refl, sym, _∙_, ap, ap₂}
 use mathlib.Core.Logic.{_⊎_, inl, inr}
-use mathlib.Core.Bool.{Bool, true, false, true≢false, false≢true}
+use mathlib.Core.Bool.{Bool, true, false, not, true≢false, false≢true}
 use mathlib.Core.Option.{Option, none, some, Option·some-ne-none, Option·none-ne-some}
-use Rattle.tree.specs.Search.{if_then_else_, found, or-else, first, smallest, some-below}
+use borrow.Author.Tests.{not-true, not-false}
+use Rattle.tree.specs.Search.{if_then_else_, found, or-else, first, smallest, some-below, all-below}
 
 -- what is below suc n is n or below n
 pub last-or-below : (i n : ℕ) → i < suc n → (i ≡ n) ⊎ (i < n)
@@ -73,7 +74,12 @@ module _ {A : Type 0} where
           let same = only (x .index) b (x .offers) in
           e ∙ sym (x .offers) ∙ ap offer same ∙ here
 
-pub if-some : (b : Bool) (i a : ℕ) → (if b then some i else none) ≡ some a → (b ≡ true) × (i ≡ a)
+  first-same : (n : ℕ) (f g : ℕ → Option A) → ((i : ℕ) → i < n → f i ≡ g i) → first n f ≡ first n g
+  unfolding first
+  first-same zero f g same = refl
+  first-same (suc n) f g same = ap₂ or-else (first-same n f g (λ i below. same i (omega arith))) (same n (omega arith))
+
+pub if-some : {A : Type 0} (b : Bool) (i a : A) → (if b then some i else none) ≡ some a → (b ≡ true) × (i ≡ a)
 if-some true i a h = (refl, (cc))
 if-some false i a h = absurd (Option·none-ne-some a h)
 
@@ -132,3 +138,17 @@ some-below-none n test h = go (some-below n test) refl
         let z = h (x .0) (x .1) in
         let y = x .2 in
         cc
+
+pub all-below-at : (n : ℕ) (test : ℕ → Bool) → all-below n test ≡ true → (i : ℕ) → i < n → test i ≡ true
+unfolding all-below
+all-below-at n test h i below = not-false (test i) (some-below-false n _ (not-true _ h) i below)
+
+pub all-below-each : (n : ℕ) (test : ℕ → Bool) → ((i : ℕ) → i < n → test i ≡ true) → all-below n test ≡ true
+unfolding all-below
+all-below-each n test h = ap not (some-below-none n _ (λ i below. ap not (h i below)))
+
+-- tests that agree below n
+pub all-below-same : (n : ℕ) (f g : ℕ → Bool) → ((i : ℕ) → i < n → f i ≡ g i) → all-below n f ≡ all-below n g
+unfolding all-below some-below smallest
+all-below-same n f g same =
+    ap (λ (o : Option ℕ). not (found o)) (first-same n _ _ (λ i below. ap (λ (b : Bool). if not b then some i else none) (same i below)))

@@ -43,11 +43,11 @@ path-of-line L n rs h = go (eqb n L) refl h
     go true e k = (eqb-true n L e, (cc))
     go false e k = absurd (Option·none-ne-some rs k)
 
-map-some : {A B : Type 0} (g : A → B) (o : Option A) (b : B) → Option·map g o ≡ some b → (a : A) × (o ≡ some a) × (b ≡ g a)
+pub map-some : {A B : Type 0} (g : A → B) (o : Option A) (b : B) → Option·map g o ≡ some b → (a : A) × (o ≡ some a) × (b ≡ g a)
 map-some g none b h = absurd (Option·none-ne-some b h)
 map-some g (some a) b h = (a, refl, (cc))
 
-map-none : {A B : Type 0} (g : A → B) (o : Option A) → Option·map g o ≡ none → o ≡ none
+pub map-none : {A B : Type 0} (g : A → B) (o : Option A) → Option·map g o ≡ none → o ≡ none
 map-none g none h = refl
 map-none g (some a) h = absurd (Option·some-ne-none (g a) h)
 
@@ -98,7 +98,7 @@ open-stands L t h =
     rw (x .1) (path-stands L t (x .0) (x .1))
 
 -- what stands is open: the search for its path finds one
-path-found : (L : ℕ) (t : Tree) (q u : ℕ) → Stands L t q u → path L t ≡ none → ⊥
+pub path-found : (L : ℕ) (t : Tree) (q u : ℕ) → Stands L t q u → path L t ≡ none → ⊥
 unfolding path Stands
 path-found L (line n) q u h e =
     Option·some-ne-none {A = List Row} [] (sym (ap (λ (b : Bool). if b then some [] else none) (eq-eqb n L (h .0))) ∙ e)

@@ -1,0 +1,224 @@
+-- The record of an opened tree: what the code writes into the record of the tree before (`booked-at` of specs/Paths.antt).
+-- Assumes nothing.
+use Prim.Native.Nat.{ℕ, zero, suc, _+_, _*_, _/_, _<_, _≤_}
+use native.Mathlib.Omega.{arith}
+use native.Mathlib.Decide.{ℕ-discrete, decLt}
+use mathlib.Core.Path.{_≡_, refl, sym, _∙_, ap, subst}
+use mathlib.Core.Logic.{_⊎_, inl, inr}
+use mathlib.Core.Bool.{Bool, true, false, true≢false}
+use mathlib.Core.List.{List, [], _∷_}
+use mathlib.Core.Option.{Option, none, some, Option·getD}
+use lib.Dec.{ltb}
+use lib.ListN.{length, take}
+use Rattle.tree.specs.declared.Row.{Row}
+use Rattle.tree.specs.declared.Plan.{Plan}
+use Rattle.tree.specs.Search.{if_then_else_}
+use Rattle.tree.specs.Tree.{Tree, nothing, node, path, path-of, Place, at, way, step}
+use Rattle.tree.specs.Opening.{divisor, class-at, chosen, opened, start-in, start-given}
+use Rattle.tree.specs.Asking.{rows-11}
+use Rattle.tree.specs.Record.{path-at, no-rows, legal, treeOf, numbers, recordOf}
+use Rattle.tree.specs.Paths.{row-of, same-node, Spot, place-of, best-of-lines, set-line, split-path, split-lines, booked-path, booked-at}
+use Rattle.tree.proofs.Searching.{last-or-below}
+use Rattle.tree.proofs.Opening.{MayOpen}
+use Rattle.bridge.proofs.Blocks.{block, set-line-length, block-set-line-same, block-set-line-other, rows-by-blocks, record-length, block-of-record}
+use Rattle.bridge.proofs.TreeOfRecord.{treeOf-legal, treeOf-path, treeOf-path-of}
+use Rattle.bridge.proofs.NodesOnPaths.{same-node-exactly}
+use Rattle.bridge.proofs.SearchOnPaths.{FoundSpot, search-some}
+use Rattle.bridge.proofs.RouteOpening.{opened-path-new, opened-path-through, opened-path-beside, opened-path-none}
+use Rattle.bridge.proofs.ClosedRecord.{legal-block}
+
+-- Lines split one after the other
+
+module _ (rows : List ℕ) (ps : List Row) (l d : ℕ) (long : length rows ≡ 1408) where
+  pub split-lines-length : (n : ℕ) → n ≤ 64 → length (split-lines rows ps l d n) ≡ 1408
+  unfolding split-lines
+  split-lines-length zero most = long
+  split-lines-length (suc n) most = by-test (same-node l ps (path-at rows n)) (split-lines-length n (omega arith))
+    where
+      by-test : (b : Bool) → length (split-lines rows ps l d n) ≡ 1408 →
+          length (if b then set-line (split-lines rows ps l d n) n (split-path l d (path-at rows n)) else split-lines rows ps l d n) ≡ 1408
+      by-test true h = set-line-length (split-lines rows ps l d n) n (split-path l d (path-at rows n)) (omega arith) h
+      by-test false h = h
+
+  -- a line at or above n is as it was
+  block-not-yet : (n M : ℕ) → n ≤ 64 → n ≤ M → block (split-lines rows ps l d n) M ≡ block rows M
+  unfolding split-lines
+  block-not-yet zero M most above = refl
+  block-not-yet (suc n) M most above = by-test (same-node l ps (path-at rows n)) (block-not-yet n M (omega arith) (omega arith))
+    where
+      by-test : (b : Bool) → block (split-lines rows ps l d n) M ≡ block rows M →
+          block (if b then set-line (split-lines rows ps l d n) n (split-path l d (path-at rows n)) else split-lines rows ps l d n) M ≡ block rows M
+      by-test true h =
+          block-set-line-other (split-lines rows ps l d n) n M (split-path l d (path-at rows n)) (omega arith) (λ same. omega arith) (split-lines-length n (omega arith)) ∙ h
+      by-test false h = h
+
+  -- a line below n was split where it goes through the node
+  abbrev block-after : ℕ → List ℕ
+  block-after M = if same-node l ps (path-at rows M) then numbers (rows-11 (split-path l d (path-at rows M))) else block rows M
+
+  block-split-last : (n : ℕ) → n < 64 → block (split-lines rows ps l d (suc n)) n ≡ block-after n
+  unfolding split-lines
+  block-split-last n below = by-test (same-node l ps (path-at rows n))
+    where
+      by-test : (b : Bool) →
+          block (if b then set-line (split-lines rows ps l d n) n (split-path l d (path-at rows n)) else split-lines rows ps l d n) n
+          ≡ (if b then numbers (rows-11 (split-path l d (path-at rows n))) else block rows n)
+      by-test true = block-set-line-same (split-lines rows ps l d n) n (split-path l d (path-at rows n)) below (split-lines-length n (omega arith))
+      by-test false = block-not-yet n n (omega arith) (omega arith)
+
+  pub block-split : (n M : ℕ) → n ≤ 64 → M < n → block (split-lines rows ps l d n) M ≡ block-after M
+  unfolding split-lines
+  block-split zero M most below = absurd (omega arith)
+  block-split (suc n) M most below =
+      elim (last-or-below M n below) [
+        inl same ↦ subst (λ (k : ℕ). block (split-lines rows ps l d (suc n)) k ≡ block-after k) (sym same) (block-split-last n (omega arith))
+      | inr earlier ↦ by-test (same-node l ps (path-at rows n)) (block-split n M (omega arith) earlier) earlier
+      ]
+    where
+      by-test : (b : Bool) → block (split-lines rows ps l d n) M ≡ block-after M → M < n →
+          block (if b then set-line (split-lines rows ps l d n) n (split-path l d (path-at rows n)) else split-lines rows ps l d n) M ≡ block-after M
+      by-test true h earlier =
+          block-set-line-other (split-lines rows ps l d n) n M (split-path l d (path-at rows n)) (omega arith) (λ same. omega arith) (split-lines-length n (omega arith)) ∙ h
+      by-test false h earlier = h
+
+same-node-none : (l : ℕ) (ps : List Row) → same-node l ps [] ≡ false
+unfolding same-node
+same-node-none l [] = refl
+same-node-none l (r ∷ rs) = refl
+
+-- An open line's path, in the record and in the tree
+
+pub open-path : (plan : Plan) (M : ℕ) → legal (plan .rows) ≡ true → M < 64 → 0 < length (path-at (plan .rows) M) → path M (treeOf plan) ≡ some (path-at (plan .rows) M)
+unfolding no-rows
+open-path plan M is-legal below positive = treeOf-path plan M is-legal below ∙ by-rows (path-at (plan .rows) M) positive
+  where
+    by-rows : (rs : List Row) → 0 < length rs → (if no-rows rs then none else some rs) ≡ some rs
+    by-rows [] h = absurd (omega arith)
+    by-rows (r ∷ rs) h = refl
+
+-- The booking
+
+module _ (plan : Plan) (L p : ℕ) (s : Spot) (is-legal : legal (plan .rows) ≡ true) (long : length (plan .rows) ≡ 1408)
+    (may : MayOpen L p (treeOf plan)) (found-spot : FoundSpot p (treeOf plan) (path-at (plan .rows)) s) where
+  abbrev t : Tree
+  t = treeOf plan
+
+  abbrev ps : List Row
+  ps = path-at (plan .rows) (s .line)
+
+  abbrev weight : ℕ
+  weight = row-of (s .level) ps .weight
+
+  -- the path of another line afterwards
+  abbrev path-after : List Row → List Row
+  path-after rs = if same-node (s .level) ps rs then (if ltb (s .divisor) weight then split-path (s .level) (s .divisor) rs else rs) else rs
+
+  line-path : path (s .line) t ≡ some ps
+  line-path = open-path plan (s .line) is-legal (found-spot .line-below) (let most = found-spot .level-below in omega arith)
+
+  -- what a line through the node becomes, by the spot's own divisor
+  through-path : (M : ℕ) (rs : List Row) → path M t ≡ some rs → same-node (s .level) ps rs ≡ true →
+      path M (opened L p t) ≡ some (if ltb (s .divisor) weight then split-path (s .level) (s .divisor) rs else rs)
+  unfolding place-of
+  through-path M rs e h =
+      let through = same-node-exactly (s .line) M t (s .level) ps rs line-path e (found-spot .level-below) .0 h in
+      subst (λ (d : ℕ). path M (opened L p t) ≡ some (if ltb d weight then split-path (s .level) d rs else rs)) (sym (found-spot .divisor-is))
+      (opened-path-through L p t (place-of s) weight (found-spot .node .0) may (found-spot .chosen-is) (found-spot .node .1) M rs e (through .0 ∙ sym (found-spot .rows-above)) (through .1))
+
+  beside-path : (M : ℕ) (rs : List Row) → path M t ≡ some rs → same-node (s .level) ps rs ≡ false → path M (opened L p t) ≡ some rs
+  unfolding place-of
+  beside-path M rs e h =
+      opened-path-beside L p t (place-of s) weight (found-spot .node .0) may (found-spot .chosen-is) (found-spot .node .1) M rs e
+      (λ above long-enough. true≢false (sym (same-node-exactly (s .line) M t (s .level) ps rs line-path e (found-spot .level-below) .1 (above ∙ found-spot .rows-above, long-enough)) ∙ h))
+
+  path-after-through : (rs : List Row) → same-node (s .level) ps rs ≡ true → path-after rs ≡ (if ltb (s .divisor) weight then split-path (s .level) (s .divisor) rs else rs)
+  path-after-through rs h = rw h
+
+  path-after-beside : (rs : List Row) → same-node (s .level) ps rs ≡ false → path-after rs ≡ rs
+  path-after-beside rs h = rw h
+
+  open-path-after : (M : ℕ) (rs : List Row) → path M t ≡ some rs → path M (opened L p t) ≡ some (path-after rs)
+  open-path-after M rs e = by-test (same-node (s .level) ps rs) refl
+    where
+      by-test : (b : Bool) → same-node (s .level) ps rs ≡ b → path M (opened L p t) ≡ some (path-after rs)
+      by-test true h = through-path M rs e h ∙ ap some (sym (path-after-through rs h))
+      by-test false h = beside-path M rs e h ∙ ap some (sym (path-after-beside rs h))
+
+  other-path : (M : ℕ) → M < 64 → (M ≡ L → ⊥) → path-of M (opened L p t) ≡ path-after (path-at (plan .rows) M)
+  unfolding path-of
+  other-path M below other = by-path (path M t) refl
+    where
+      by-path : (o : Option (List Row)) → path M t ≡ o → Option·getD (path M (opened L p t)) [] ≡ path-after (path-at (plan .rows) M)
+      by-path none e =
+          let empty : path-at (plan .rows) M ≡ [] = sym (treeOf-path-of plan M is-legal below) ∙ ap (λ (o : Option (List Row)). Option·getD o []) e in
+          ap (λ (o : Option (List Row)). Option·getD o []) (opened-path-none L p t may M other e)
+          ∙ sym (ap path-after empty ∙ path-after-beside [] (same-node-none (s .level) ps))
+      by-path (some rs) e =
+          let same : path-at (plan .rows) M ≡ rs = sym (treeOf-path-of plan M is-legal below) ∙ ap (λ (o : Option (List Row)). Option·getD o []) e in
+          ap (λ (o : Option (List Row)). Option·getD o []) (open-path-after M rs e) ∙ ap path-after (sym same)
+
+  new-path : path-of L (opened L p t) ≡ booked-path (take (s .level) ps) (s .divisor) (s .class) (p / (s .step * s .divisor))
+  unfolding path-of
+  new-path =
+      let new = opened-path-new L p t (place-of s) weight (found-spot .node .0) may (found-spot .chosen-is) (found-spot .node .1) in
+      ap (λ (o : Option (List Row)). Option·getD o []) new ∙ cc
+
+  -- the record before the new line is placed
+  abbrev split-rows : List ℕ
+  split-rows = if ltb (s .divisor) weight then split-lines (plan .rows) ps (s .level) (s .divisor) 64 else plan .rows
+
+  split-rows-length : length split-rows ≡ 1408
+  split-rows-length = by-test (ltb (s .divisor) weight)
+    where
+      by-test : (b : Bool) → length (if b then split-lines (plan .rows) ps (s .level) (s .divisor) 64 else plan .rows) ≡ 1408
+      by-test true = split-lines-length (plan .rows) ps (s .level) (s .divisor) long 64 (omega arith)
+      by-test false = long
+
+  block-before : (M : ℕ) → M < 64 → block split-rows M ≡ numbers (rows-11 (path-after (path-at (plan .rows) M)))
+  block-before M below = by-split (ltb (s .divisor) weight)
+    where
+      rs : List Row
+      rs = path-at (plan .rows) M
+      here : block (plan .rows) M ≡ numbers (rows-11 rs)
+      here = legal-block (plan .rows) M is-legal long below
+      by-node : (b : Bool) → (if b then numbers (rows-11 (split-path (s .level) (s .divisor) rs)) else block (plan .rows) M) ≡ numbers (rows-11 (if b then split-path (s .level) (s .divisor) rs else rs))
+      by-node true = refl
+      by-node false = here
+      either : (b : Bool) → numbers (rows-11 rs) ≡ numbers (rows-11 (if b then rs else rs))
+      either true = refl
+      either false = refl
+      by-split : (b : Bool) → block (if b then split-lines (plan .rows) ps (s .level) (s .divisor) 64 else plan .rows) M
+          ≡ numbers (rows-11 (if same-node (s .level) ps rs then (if b then split-path (s .level) (s .divisor) rs else rs) else rs))
+      by-split true = block-split (plan .rows) ps (s .level) (s .divisor) long 64 M (omega arith) below ∙ by-node (same-node (s .level) ps rs)
+      by-split false = here ∙ either (same-node (s .level) ps rs)
+
+  pub booked-record : booked-at (plan .rows) L p s ≡ recordOf (opened L p t) .rows
+  unfolding booked-at
+  booked-record =
+      rows-by-blocks (set-line split-rows L new-rows) (recordOf (opened L p t) .rows)
+      (set-line-length split-rows L new-rows L-below split-rows-length) (record-length (opened L p t)) each
+    where
+      new-rows : List Row
+      new-rows = booked-path (take (s .level) ps) (s .divisor) (s .class) (p / (s .step * s .divisor))
+      L-below : L < 64
+      L-below = let most = may .number-in-range in omega arith
+      each : (M : ℕ) → M < 64 → block (set-line split-rows L new-rows) M ≡ block (recordOf (opened L p t) .rows) M
+      each M below =
+          elim (ℕ-discrete M L) [
+            yes same ↦
+              ap (block (set-line split-rows L new-rows)) same
+              ∙ block-set-line-same split-rows L new-rows L-below split-rows-length
+              ∙ ap (λ (rs : List Row). numbers (rows-11 rs)) (sym new-path)
+              ∙ sym (block-of-record (opened L p t) L L-below)
+              ∙ ap (block (recordOf (opened L p t) .rows)) (sym same)
+          | no other ↦
+              block-set-line-other split-rows L M new-rows L-below other split-rows-length
+              ∙ block-before M below
+              ∙ ap (λ (rs : List Row). numbers (rows-11 rs)) (sym (other-path M below other))
+              ∙ sym (block-of-record (opened L p t) M below)
+          ]
+
+  -- the start that the code answers
+  pub booked-start : s .offset + s .class * s .step ≡ start-given p t
+  unfolding start-given start-in place-of
+  booked-start = rw (found-spot .chosen-is) (cc)

@@ -1,0 +1,29 @@
+-- Paths after closing and opening
+pub mod Route
+pub mod RouteClosing
+pub mod RouteBooking
+pub mod RouteOpening
+-- The search over paths finds the chosen candidate of the tree
+pub mod NodesOnPaths
+pub mod ClassOnPaths
+pub mod SearchOnPaths
+-- A line's block of the record, and its path
+pub mod RowsOfNumbers
+pub mod WrittenPaths
+pub mod Blocks
+pub mod BlockPaths
+-- The tree of a record
+pub mod NodePath
+pub mod SameTree
+pub mod Parting
+pub mod Stand
+pub mod LegalRecord
+pub mod StandLegal
+pub mod Grown
+pub mod TreeOfRecord
+pub mod LegalPaths
+-- The record of the tree that a call leaves
+pub mod ClosedRecord
+pub mod BookedRecord
+pub mod FirstRecord
+pub mod CallsOnRecords

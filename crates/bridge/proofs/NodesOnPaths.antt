@@ -1,0 +1,273 @@
+-- The nodes of a tree are the levels of its lines' paths, and the present edges of a node those that lines through it take there.
+-- Assumes nothing.
+use Prim.Native.Nat.{ℕ, zero, suc, _+_, _*_, _/_, _%_, _<_}
+use native.Mathlib.Omega.{arith}
+use native.Mathlib.Nat.{mod-lt, mod-add-div}
+use mathlib.Core.Path.{_≡_, refl, sym, _∙_, ap, ap₂, subst}
+use mathlib.Core.Logic.{_↔_}
+use mathlib.Core.Bool.{true, false≢true, and-eq-true-iff}
+use mathlib.Core.List.{List, [], _∷_, _++_}
+use mathlib.Core.Option.{some, Option·map, Option·none-ne-some, map-eq-some-iff}
+use lib.Dec.{eqb}
+use lib.ListN.{length, take, drop, length-append}
+use lib.Seq.{take-at, getD-at}
+use borrow.Author.Tests.{eqb-true, eq-eqb}
+use Rattle.tree.specs.declared.Row.{Row}
+use Rattle.tree.specs.Tree.{Tree, nothing, line, node, present, row, sum-from, sum, path, is-open, Place, at-digits, at, way-by-digits, way}
+use Rattle.tree.specs.Opening.{under}
+use Rattle.tree.specs.Shape.{Edges, Legal}
+use Rattle.tree.specs.Paths.{row-of, same-node}
+use Rattle.tree.proofs.Digits.{digit-low, digit-high}
+use Rattle.tree.proofs.Searching.{first-only, found-some, some-below-true}
+use Rattle.tree.proofs.UnderEdge.{stands-present}
+use Rattle.tree.proofs.Proper.{Proper, legal-proper}
+use Rattle.tree.proofs.Standing.{path-of-line, path-below, path-stands, sum-row, stands-open}
+use Rattle.tree.proofs.ChosenCandidate.{at-under}
+use Rattle.tree.proofs.Opening.{at-proper}
+use Rattle.tree.proofs.Closing.{proper-present-line}
+use Rattle.tree.proofs.Numbering.{stands-number}
+
+-- the place of level l of a path
+abbrev pub place-on : ℕ → List Row → Place
+place-on l rs = record { level = l; offset = sum (take l rs) }
+
+-- From a path to the node at a level of it
+
+pub record NodeOnPath (M : ℕ) (t : Tree) (l : ℕ) (rs : List Row) : Type 0 where
+  pub edges : ℕ → Tree
+  pub way-is : way (place-on l rs) t ≡ take l rs
+  pub node-is : at (place-on l rs) t ≡ node (row-of l rs .weight) edges
+  pub edge-below : row-of l rs .edge < row-of l rs .weight
+  pub path-is : path M (edges (row-of l rs .edge)) ≡ some (drop (suc l) rs)
+
+way-under : (w e : ℕ) (f : ℕ → Tree) (a : Place) → e < w → way (under w e a) (node w f) ≡ row w e ∷ way a (f e)
+unfolding way way-by-digits under
+way-under w e f a below =
+    ap₂ (λ d q. row w d ∷ way-by-digits (a .level) q (f d)) (digit-low w e (a .offset) below) (digit-high w e (a .offset) below)
+
+place-under : (w e l : ℕ) (rs : List Row) → place-on (suc l) (row w e ∷ rs) ≡ under w e (place-on l rs)
+unfolding under
+place-under w e l rs i = record { level = suc l; offset = sum-row (row w e) (take l rs) i }
+
+root-on-path : (M w e : ℕ) (f : ℕ → Tree) (rs : List Row) → e < w → path M (f e) ≡ some rs → NodeOnPath M (node w f) 0 (row w e ∷ rs)
+unfolding way way-by-digits at at-digits sum sum-from row-of
+root-on-path M w e f rs below h =
+    record { edges = f; way-is = refl; node-is = refl; edge-below = below; path-is = h }
+
+node-under : (M w e l : ℕ) (f : ℕ → Tree) (rs : List Row) → e < w → NodeOnPath M (f e) l rs → NodeOnPath M (node w f) (suc l) (row w e ∷ rs)
+unfolding row-of
+node-under M w e l f rs below x =
+    record {
+      edges = x .edges;
+      way-is = rw (place-under w e l rs, way-under w e f (place-on l rs) below, x .way-is);
+      node-is = rw (place-under w e l rs, at-under w e below f (place-on l rs)) (x .node-is);
+      edge-below = x .edge-below;
+      path-is = x .path-is;
+    }
+
+pub path-node : (M : ℕ) (t : Tree) (l : ℕ) (rs : List Row) → path M t ≡ some rs → l < length rs → NodeOnPath M t l rs
+unfolding path
+path-node M nothing l rs h below = absurd (Option·none-ne-some rs h)
+path-node M (line n) l rs h below =
+    let rows = path-of-line M n rs h .1 in
+    let none-there : l < 0 = rw rows at below in
+    absurd (omega arith)
+path-node M (node w f) zero rs h below =
+    let x = path-below M w f rs h in
+    rw (x .rows-are) (root-on-path M w (x .edge) f (x .rest) (x .edge-below) (x .path-is))
+path-node M (node w f) (suc l) rs h below =
+    let x = path-below M w f rs h in
+    let deeper : suc l < suc (length (x .rest)) = rw (x .rows-are) at below in
+    rw (x .rows-are)
+    (node-under M w (x .edge) l f (x .rest) (x .edge-below) (path-node M (f (x .edge)) l (x .rest) (x .path-is) (omega arith)))
+
+-- From a node to the paths through it
+
+way-length : (l r : ℕ) (t : Tree) → present (at-digits l r t) ≡ true → length (way-by-digits l r t) ≡ l
+unfolding at-digits way-by-digits present
+way-length zero r t here = refl
+way-length (suc l) r nothing here = absurd (false≢true here)
+way-length (suc l) r (line n) here = absurd (false≢true here)
+way-length (suc l) r (node w f) here = ap suc (way-length l (r / w) (f (r % w)) here)
+
+way-sum : (l r : ℕ) (t : Tree) → present (at-digits l r t) ≡ true → sum (way-by-digits l r t) ≡ r
+unfolding at-digits way-by-digits present sum sum-from
+way-sum zero zero t here = refl
+way-sum zero (suc r) t here = absurd (false≢true here)
+way-sum (suc l) r nothing here = absurd (false≢true here)
+way-sum (suc l) r (line n) here = absurd (false≢true here)
+way-sum (suc l) r (node w f) here =
+    sum-row (row w (r % w)) (way-by-digits l (r / w) (f (r % w)))
+    ∙ ap (λ (n : ℕ). r % w + w * n) (way-sum l (r / w) (f (r % w)) here)
+    ∙ mod-add-div r w
+
+path-open : (M : ℕ) (t : Tree) (rs : List Row) → path M t ≡ some rs → is-open M t ≡ true
+path-open M t rs h = stands-open M t _ _ (path-stands M t rs h)
+
+pub path-under : (M w e : ℕ) (f : ℕ → Tree) (rs : List Row) → Edges w f → e < w → path M (f e) ≡ some rs → path M (node w f) ≡ some (row w e ∷ rs)
+unfolding path
+path-under M w e f rs edges below h =
+    first-only w _ e (row w e ∷ rs) below (ap (Option·map (_∷_ (row w e))) h) only
+  where
+    only : (k : ℕ) (qs : List Row) → Option·map (_∷_ (row w k)) (path M (f k)) ≡ some qs → k ≡ e
+    only k qs q =
+        edges .line-once M k e (path-open M (f k) _ (map-eq-some-iff (_∷_ (row w k)) (path M (f k)) .0 q .1)) (path-open M (f e) rs h)
+
+-- the path of a line below a place goes through that place
+path-through : (M l r : ℕ) (t : Tree) (rs : List Row) → Proper t → path M (at-digits l r t) ≡ some rs → path M t ≡ some (way-by-digits l r t ++ rs)
+unfolding at-digits way-by-digits Proper path
+path-through M zero zero t rs proper h = h
+path-through M zero (suc r) t rs proper h = absurd (Option·none-ne-some rs h)
+path-through M (suc l) r nothing rs proper h = absurd (Option·none-ne-some rs h)
+path-through M (suc l) r (line n) rs proper h = absurd (Option·none-ne-some rs h)
+path-through M (suc l) r (node w f) rs proper h =
+    path-under M w (r % w) f (way-by-digits l (r / w) (f (r % w)) ++ rs) (proper .1) (mod-lt r (proper .0))
+    (path-through M l (r / w) (f (r % w)) rs (proper .2 (r % w)) h)
+
+-- a line whose path goes through the node at a place, of weight w, and takes edge e there
+pub record LineThrough (t : Tree) (a : Place) (w e : ℕ) : Type 0 where
+  pub line : ℕ
+  pub rows : List Row
+  pub line-below : line < 64
+  pub path-is : path line t ≡ some rows
+  pub level-below : a .level < length rows
+  pub rows-above : take (a .level) rows ≡ way a t
+  pub offset-is : sum (take (a .level) rows) ≡ a .offset
+  pub row-is : row-of (a .level) rows ≡ row w e
+
+pub through-edge-below : (t : Tree) (a : Place) (w e : ℕ) → LineThrough t a w e → e < w
+through-edge-below t a w e x =
+    rw (x .row-is) at (path-node (x .line) t (a .level) (x .rows) (x .path-is) (x .level-below) .edge-below)
+
+proper-present-path : (t : Tree) → Proper t → present t ≡ true → (M : ℕ) × (rs : List Row) × (path M t ≡ some rs)
+unfolding is-open
+proper-present-path t proper here =
+    let x = proper-present-line t proper here in
+    let y = found-some (path (x .0) t) (stands-open (x .0) t _ _ (x .3)) in
+    (x .0, y .0, y .1)
+
+path-line-below : (M : ℕ) (t : Tree) (rs : List Row) → Legal t → path M t ≡ some rs → M < 64
+path-line-below M t rs legal h = let small = stands-number M t _ _ legal (path-stands M t rs h) in omega arith
+
+module _ (t : Tree) (legal : Legal t) (a : Place) (w : ℕ) (f : ℕ → Tree) (here : at a t ≡ node w f) where
+  node-proper : Proper (node w f)
+  unfolding at
+  node-proper = subst Proper here (at-proper (a .level) (a .offset) t (legal-proper t legal))
+
+  place-present : present (at a t) ≡ true
+  unfolding present
+  place-present = ap present here
+
+  line-through : (e : ℕ) → e < w → present (f e) ≡ true → LineThrough t a w e
+  unfolding Proper at way row-of
+  line-through e below there =
+      let x = proper-present-path (f e) (node-proper .2 e) there in
+      let rest = row w e ∷ x .1 in
+      let in-node : path (x .0) (at a t) ≡ some rest = rw here (path-under (x .0) w e f (x .1) (node-proper .1) below (x .2)) in
+      let whole = path-through (x .0) (a .level) (a .offset) t rest (legal-proper t legal) in-node in
+      let long = way-length (a .level) (a .offset) t place-present in
+      let above = take-at (way a t) rest (a .level) long in
+      record {
+        line = x .0;
+        rows = way a t ++ rest;
+        line-below = path-line-below (x .0) t (way a t ++ rest) legal whole;
+        path-is = whole;
+        level-below = omega (arith, length-append (way a t) rest);
+        rows-above = above;
+        offset-is = ap sum above ∙ way-sum (a .level) (a .offset) t place-present;
+        row-is = getD-at (way a t) (row w e) (x .1) (row 0 0) (a .level) long;
+      }
+
+  through-present : (e : ℕ) → LineThrough t a w e → present (f e) ≡ true
+  through-present e x =
+      let y = path-node (x .line) t (a .level) (x .rows) (x .path-is) (x .level-below) in
+      let same-place : place-on (a .level) (x .rows) ≡ a = λ i. record { level = a .level; offset = x .offset-is i } in
+      let same-node = sym (y .node-is) ∙ ap (λ b. at b t) same-place ∙ here in
+      let same-edge : row-of (a .level) (x .rows) .edge ≡ e = ap (λ (r : Row). r .edge) (x .row-is) in
+      let under-edge : y .edges (row-of (a .level) (x .rows) .edge) ≡ f e = cc in
+      ap present (sym under-edge) ∙ stands-present (x .line) _ _ _ (path-stands (x .line) _ _ (y .path-is))
+
+  -- an edge is present exactly when a line takes it
+  pub edge-present : (e : ℕ) → e < w → (present (f e) ≡ true) ↔ LineThrough t a w e
+  edge-present e below = (line-through e below, through-present e)
+
+  -- some line goes through the node
+  pub node-path : (e : ℕ) × LineThrough t a w e
+  unfolding Proper
+  node-path =
+      let x = some-below-true w _ (node-proper .1 .not-empty) in
+      (x .0, line-through (x .0) (x .1) (x .2))
+
+-- Two paths go through the same node
+
+rows-same-node : (l : ℕ) (rs qs : List Row) → take l qs ≡ take l rs → l < length rs → l < length qs → same-node l rs qs ≡ true
+unfolding same-node
+rows-same-node l [] qs same long-r long-q = absurd (omega arith)
+rows-same-node l (r ∷ rs) [] same long-r long-q = absurd (omega arith)
+rows-same-node zero (r ∷ rs) (q ∷ qs) same long-r long-q = refl
+rows-same-node (suc l) (r ∷ rs) (q ∷ qs) same long-r long-q =
+    let first-row : r ≡ q = cc in
+    let later-rows : take l qs ≡ take l rs = cc in
+    rw (eq-eqb (r .edge) (q .edge) (ap (λ (x : Row). x .edge) first-row))
+    (rows-same-node l rs qs later-rows (omega arith) (omega arith))
+
+pub same-node-long : (l : ℕ) (rs qs : List Row) → same-node l rs qs ≡ true → l < length qs
+unfolding same-node
+same-node-long l [] qs same = absurd (false≢true same)
+same-node-long l (r ∷ rs) [] same = absurd (false≢true same)
+same-node-long zero (r ∷ rs) (q ∷ qs) same = omega arith
+same-node-long (suc l) (r ∷ rs) (q ∷ qs) same =
+    let later = same-node-long l rs qs (and-eq-true-iff (eqb (r .edge) (q .edge)) (same-node l rs qs) .0 same .1) in
+    omega arith
+
+same-node-rows : (M N : ℕ) (t : Tree) (l : ℕ) (rs qs : List Row) → path M t ≡ some rs → path N t ≡ some qs → same-node l rs qs ≡ true → take l qs ≡ take l rs
+unfolding path same-node
+same-node-rows M N nothing l rs qs h k same = absurd (Option·none-ne-some rs h)
+same-node-rows M N (line n) l rs qs h k same =
+    let no-row = path-of-line M n rs h .1 in
+    absurd (false≢true (rw no-row at same))
+same-node-rows M N (node w f) zero rs qs h k same = refl
+same-node-rows M N (node w f) (suc l) rs qs h k same =
+    let x = path-below M w f rs h in
+    let y = path-below N w f qs k in
+    let both = and-eq-true-iff (eqb (x .edge) (y .edge)) (same-node l (x .rest) (y .rest)) .0 (rw (x .rows-are, y .rows-are) at same) in
+    let edge : x .edge ≡ y .edge = eqb-true (x .edge) (y .edge) (both .0) in
+    let later = same-node-rows M N (f (x .edge)) l (x .rest) (y .rest) (x .path-is) (rw edge (y .path-is)) (both .1) in
+    rw (x .rows-are, y .rows-are) (ap₂ (λ e rows. row w e ∷ rows) (sym edge) later)
+
+pub same-node-exactly :
+    (M N : ℕ) (t : Tree) (l : ℕ) (rs qs : List Row) → path M t ≡ some rs → path N t ≡ some qs → l < length rs →
+    (same-node l rs qs ≡ true) ↔ ((take l qs ≡ take l rs) × (l < length qs))
+same-node-exactly M N t l rs qs h k long = (
+  λ same. (same-node-rows M N t l rs qs h k same, same-node-long l rs qs same),
+  λ both. rows-same-node l rs qs (both .0) long (both .1),
+)
+
+-- The lines through the node at level l of line M's path are those whose paths have the same node there
+
+module _ (M : ℕ) (t : Tree) (l : ℕ) (rs : List Row) (h : path M t ≡ some rs) (long : l < length rs) where
+  pub same-node-through :
+      (N : ℕ) (qs : List Row) → N < 64 → path N t ≡ some qs → same-node l rs qs ≡ true →
+      LineThrough t (place-on l rs) (row-of l rs .weight) (row-of l qs .edge)
+  same-node-through N qs below k same =
+      let both = same-node-exactly M N t l rs qs h k long .0 same in
+      let x = path-node M t l rs h long in
+      let y = path-node N t l qs k (both .1) in
+      let one-node =
+      sym (y .node-is) ∙ ap (λ (above : List Row). at (record { level = l; offset = sum above }) t) (both .0) ∙ x .node-is in
+      let one-weight : row-of l qs .weight ≡ row-of l rs .weight = cc in
+      record {
+        line = N;
+        rows = qs;
+        line-below = below;
+        path-is = k;
+        level-below = both .1;
+        rows-above = both .0 ∙ sym (x .way-is);
+        offset-is = ap sum (both .0);
+        row-is = λ i. row (one-weight i) (row-of l qs .edge);
+      }
+
+  pub through-same-node : (w e : ℕ) (x : LineThrough t (place-on l rs) w e) → same-node l rs (x .rows) ≡ true
+  through-same-node w e x =
+      same-node-exactly M (x .line) t l rs (x .rows) h (x .path-is) long .1
+      (x .rows-above ∙ path-node M t l rs h long .way-is, x .level-below)
