@@ -71,8 +71,8 @@ module _ (rows : List ℕ) (ps : List Row) (l d : ℕ) (long : length rows ≡ 1
   block-split zero M most below = absurd (omega arith)
   block-split (suc n) M most below =
       elim (last-or-below M n below) [
-        inl same ↦ subst (λ (k : ℕ). block (split-lines rows ps l d (suc n)) k ≡ block-after k) (sym same) (block-split-last n (omega arith))
-      | inr earlier ↦ by-test (same-node l ps (path-at rows n)) (block-split n M (omega arith) earlier) earlier
+        | inl same ↦ subst (λ (k : ℕ). block (split-lines rows ps l d (suc n)) k ≡ block-after k) (sym same) (block-split-last n (omega arith))
+        | inr earlier ↦ by-test (same-node l ps (path-at rows n)) (block-split n M (omega arith) earlier) earlier
       ]
     where
       by-test : (b : Bool) → block (split-lines rows ps l d n) M ≡ block-after M → M < n →
@@ -179,14 +179,18 @@ module _ (plan : Plan) (L p : ℕ) (s : Spot) (is-legal : legal (plan .rows) ≡
     where
       rs : List Row
       rs = path-at (plan .rows) M
+
       here : block (plan .rows) M ≡ numbers (rows-11 rs)
       here = legal-block (plan .rows) M is-legal long below
+
       by-node : (b : Bool) → (if b then numbers (rows-11 (split-path (s .level) (s .divisor) rs)) else block (plan .rows) M) ≡ numbers (rows-11 (if b then split-path (s .level) (s .divisor) rs else rs))
       by-node true = refl
       by-node false = here
+
       either : (b : Bool) → numbers (rows-11 rs) ≡ numbers (rows-11 (if b then rs else rs))
       either true = refl
       either false = refl
+
       by-split : (b : Bool) → block (if b then split-lines (plan .rows) ps (s .level) (s .divisor) 64 else plan .rows) M
           ≡ numbers (rows-11 (if same-node (s .level) ps rs then (if b then split-path (s .level) (s .divisor) rs else rs) else rs))
       by-split true = block-split (plan .rows) ps (s .level) (s .divisor) long 64 M (omega arith) below ∙ by-node (same-node (s .level) ps rs)
@@ -200,22 +204,24 @@ module _ (plan : Plan) (L p : ℕ) (s : Spot) (is-legal : legal (plan .rows) ≡
     where
       new-rows : List Row
       new-rows = booked-path (take (s .level) ps) (s .divisor) (s .class) (p / (s .step * s .divisor))
+
       L-below : L < 64
       L-below = let most = may .number-in-range in omega arith
+
       each : (M : ℕ) → M < 64 → block (set-line split-rows L new-rows) M ≡ block (recordOf (opened L p t) .rows) M
       each M below =
           elim (ℕ-discrete M L) [
-            yes same ↦
-              ap (block (set-line split-rows L new-rows)) same
-              ∙ block-set-line-same split-rows L new-rows L-below split-rows-length
-              ∙ ap (λ (rs : List Row). numbers (rows-11 rs)) (sym new-path)
-              ∙ sym (block-of-record (opened L p t) L L-below)
-              ∙ ap (block (recordOf (opened L p t) .rows)) (sym same)
-          | no other ↦
-              block-set-line-other split-rows L M new-rows L-below other split-rows-length
-              ∙ block-before M below
-              ∙ ap (λ (rs : List Row). numbers (rows-11 rs)) (sym (other-path M below other))
-              ∙ sym (block-of-record (opened L p t) M below)
+            | yes same ↦
+                ap (block (set-line split-rows L new-rows)) same
+                ∙ block-set-line-same split-rows L new-rows L-below split-rows-length
+                ∙ ap (λ (rs : List Row). numbers (rows-11 rs)) (sym new-path)
+                ∙ sym (block-of-record (opened L p t) L L-below)
+                ∙ ap (block (recordOf (opened L p t) .rows)) (sym same)
+            | no other ↦
+                block-set-line-other split-rows L M new-rows L-below other split-rows-length
+                ∙ block-before M below
+                ∙ ap (λ (rs : List Row). numbers (rows-11 rs)) (sym (other-path M below other))
+                ∙ sym (block-of-record (opened L p t) M below)
           ]
 
   -- the start that the code answers

@@ -43,18 +43,19 @@ closed-record plan L below is-legal long =
   where
     t : Tree
     t = treeOf plan
+
     each : (M : ℕ) → M < 64 → block (set-line (plan .rows) L []) M ≡ block (recordOf (closed L t) .rows) M
     each M M-below =
         elim (ℕ-discrete M L) [
-          yes same ↦
-            ap (block (set-line (plan .rows) L [])) same
-            ∙ block-set-line-same (plan .rows) L [] below long
-            ∙ ap (λ (o : Option (List Row)). numbers (rows-11 (Option·getD o []))) (sym (closed-path-gone L t))
-            ∙ sym (block-of-record (closed L t) L below)
-            ∙ ap (block (recordOf (closed L t) .rows)) (sym same)
-        | no other ↦
-            block-set-line-other (plan .rows) L M [] below other long
-            ∙ block-of-tree plan M is-legal long M-below
-            ∙ ap (λ (o : Option (List Row)). numbers (rows-11 (Option·getD o []))) (sym (closed-path-other L M t (treeOf-legal plan) other))
-            ∙ sym (block-of-record (closed L t) M M-below)
+          | yes same ↦
+              ap (block (set-line (plan .rows) L [])) same
+              ∙ block-set-line-same (plan .rows) L [] below long
+              ∙ ap (λ (o : Option (List Row)). numbers (rows-11 (Option·getD o []))) (sym (closed-path-gone L t))
+              ∙ sym (block-of-record (closed L t) L below)
+              ∙ ap (block (recordOf (closed L t) .rows)) (sym same)
+          | no other ↦
+              block-set-line-other (plan .rows) L M [] below other long
+              ∙ block-of-tree plan M is-legal long M-below
+              ∙ ap (λ (o : Option (List Row)). numbers (rows-11 (Option·getD o []))) (sym (closed-path-other L M t (treeOf-legal plan) other))
+              ∙ sym (block-of-record (closed L t) M M-below)
         ]

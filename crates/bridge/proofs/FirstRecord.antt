@@ -46,23 +46,26 @@ first-record plan L p below positive is-legal long closed =
   where
     rows : List ℕ
     rows = plan .rows
+
     first-path : List Row
     first-path = row p 0 ∷ []
+
     t : Tree
     t = opened L p nothing
+
     each : (M : ℕ) → M < 64 → block (set-line rows L first-path) M ≡ block (recordOf t .rows) M
     each M M-below =
         elim (ℕ-discrete M L) [
-          yes same ↦
-            ap (block (set-line rows L first-path)) same
-            ∙ block-set-line-same rows L first-path below long
-            ∙ ap (λ (o : Option (List Row)). numbers (rows-11 (Option·getD o []))) (sym (opened-path-empty L p positive))
-            ∙ sym (block-of-record t L below)
-            ∙ ap (block (recordOf t .rows)) (sym same)
-        | no other ↦
-            block-set-line-other rows L M first-path below other long
-            ∙ legal-block rows M is-legal long M-below
-            ∙ ap (λ (rs : List Row). numbers (rows-11 rs)) (no-rows-empty (path-at rows M) (closed M M-below))
-            ∙ ap (λ (o : Option (List Row)). numbers (rows-11 (Option·getD o []))) (sym (opened-path-empty-other L p M other))
-            ∙ sym (block-of-record t M M-below)
+          | yes same ↦
+              ap (block (set-line rows L first-path)) same
+              ∙ block-set-line-same rows L first-path below long
+              ∙ ap (λ (o : Option (List Row)). numbers (rows-11 (Option·getD o []))) (sym (opened-path-empty L p positive))
+              ∙ sym (block-of-record t L below)
+              ∙ ap (block (recordOf t .rows)) (sym same)
+          | no other ↦
+              block-set-line-other rows L M first-path below other long
+              ∙ legal-block rows M is-legal long M-below
+              ∙ ap (λ (rs : List Row). numbers (rows-11 rs)) (no-rows-empty (path-at rows M) (closed M M-below))
+              ∙ ap (λ (o : Option (List Row)). numbers (rows-11 (Option·getD o []))) (sym (opened-path-empty-other L p M other))
+              ∙ sym (block-of-record t M M-below)
         ]
