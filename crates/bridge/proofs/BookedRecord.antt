@@ -2,9 +2,9 @@
 -- Assumes nothing.
 use Prim.Native.Nat.{ℕ, zero, suc, _+_, _*_, _/_, _<_, _≤_}
 use native.Mathlib.Omega.{arith}
-use native.Mathlib.Decide.{ℕ-discrete, decLt}
+use native.Mathlib.Decide.{ℕ-discrete}
 use mathlib.Core.Path.{_≡_, refl, sym, _∙_, ap, subst}
-use mathlib.Core.Logic.{_⊎_, inl, inr}
+use mathlib.Core.Logic.{inl, inr}
 use mathlib.Core.Bool.{Bool, true, false, true≢false}
 use mathlib.Core.List.{List, [], _∷_}
 use mathlib.Core.Option.{Option, none, some, Option·getD}
@@ -13,17 +13,17 @@ use lib.ListN.{length, take}
 use Rattle.tree.specs.declared.Row.{Row}
 use Rattle.tree.specs.declared.Plan.{Plan}
 use Rattle.tree.specs.Search.{if_then_else_}
-use Rattle.tree.specs.Tree.{Tree, nothing, node, path, path-of, Place, at, way, step}
-use Rattle.tree.specs.Opening.{divisor, class-at, chosen, opened, start-in, start-given}
+use Rattle.tree.specs.Tree.{Tree, node, path, path-of, step}
+use Rattle.tree.specs.Opening.{divisor, opened, start-in, start-given}
 use Rattle.tree.specs.Asking.{rows-11}
 use Rattle.tree.specs.Record.{path-at, no-rows, legal, treeOf, numbers, recordOf}
-use Rattle.tree.specs.Paths.{row-of, same-node, Spot, place-of, best-of-lines, set-line, split-path, split-lines, booked-path, booked-at}
+use Rattle.tree.specs.Paths.{row-of, same-node, Spot, place-of, set-line, split-path, split-lines, booked-path, booked-at}
 use Rattle.tree.proofs.Searching.{last-or-below}
 use Rattle.tree.proofs.Opening.{MayOpen}
 use Rattle.bridge.proofs.Blocks.{block, set-line-length, block-set-line-same, block-set-line-other, rows-by-blocks, record-length, block-of-record}
-use Rattle.bridge.proofs.TreeOfRecord.{treeOf-legal, treeOf-path, treeOf-path-of}
+use Rattle.bridge.proofs.TreeOfRecord.{treeOf-path, treeOf-path-of}
 use Rattle.bridge.proofs.NodesOnPaths.{same-node-exactly}
-use Rattle.bridge.proofs.SearchOnPaths.{FoundSpot, search-some}
+use Rattle.bridge.proofs.SearchOnPaths.{FoundSpot}
 use Rattle.bridge.proofs.RouteOpening.{opened-path-new, opened-path-through, opened-path-beside, opened-path-none}
 use Rattle.bridge.proofs.ClosedRecord.{legal-block}
 

@@ -1,21 +1,20 @@
 -- An open and a close on a legal record, each way that they can go: what is written is the record of the tree that the rules leave.
 -- Assumes nothing.
-use Prim.Native.Nat.{ℕ, _+_, _*_, _/_, _<_, _≤_}
+use Prim.Native.Nat.{ℕ, _+_, _*_, _<_, _≤_}
 use native.Mathlib.Omega.{arith}
 use mathlib.Core.Path.{_≡_, refl, sym, _∙_, ap, subst}
 use mathlib.Core.Bool.{Bool, true, false, not, _&&_, and-false}
 use mathlib.Core.List.{List, [], _∷_}
 use mathlib.Core.Option.{Option, none, some}
 use lib.ListN.{length}
-use Rattle.tree.specs.declared.Row.{Row}
 use Rattle.tree.specs.Search.{if_then_else_, found}
-use Rattle.tree.specs.Tree.{Tree, nothing, present, row, path, is-open, Place}
+use Rattle.tree.specs.Tree.{Tree, nothing, present, row, is-open, Place}
 use Rattle.tree.specs.Shape.{Legal}
-use Rattle.tree.specs.Opening.{chosen, opened, start-given}
+use Rattle.tree.specs.Opening.{opened, start-given}
 use Rattle.tree.specs.Closing.{closed}
-use Rattle.tree.specs.Refusals.{no-room, period-out-of-range, open-refusal, line-refusal}
-use Rattle.tree.specs.Calls.{Call, open-line, close-line, Answer, booked, done, refused, refusal, reply, carried-out, answer-unless, answer}
-use Rattle.tree.specs.Record.{path-at, no-rows, legal, treeOf, recordOf}
+use Rattle.tree.specs.Refusals.{no-room, period-out-of-range, open-refusal}
+use Rattle.tree.specs.Calls.{Call, open-line, close-line, booked, done, refused, refusal, reply, carried-out, answer-unless, answer}
+use Rattle.tree.specs.Record.{path-at, no-rows, legal, recordOf}
 use Rattle.tree.specs.Paths.{Spot, best-of-lines, set-line, booked-at}
 use Rattle.tree.proofs.UnderEdge.{stands-present}
 use Rattle.tree.proofs.Standing.{open-stands}

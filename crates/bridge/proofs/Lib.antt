@@ -24,6 +24,7 @@ pub mod TreeOfRecord
 pub mod LegalPaths
 -- The record of the tree that a call leaves
 pub mod ClosedRecord
+pub mod RecordRoundTrip
 pub mod BookedRecord
 pub mod FirstRecord
 pub mod CallsOnRecords
