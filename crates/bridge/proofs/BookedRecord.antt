@@ -19,13 +19,16 @@ use Rattle.tree.specs.Asking.{rows-11}
 use Rattle.tree.specs.Record.{path-at, no-rows, legal, treeOf, numbers, recordOf}
 use Rattle.tree.specs.Paths.{row-of, same-node, Spot, place-of, set-line, split-path, split-lines, booked-path, booked-at}
 use Rattle.tree.proofs.Searching.{last-or-below}
-use Rattle.tree.proofs.Opening.{MayOpen}
+use Rattle.tree.proofs.Opening.{MayOpen, opened-legal}
 use Rattle.bridge.proofs.Blocks.{block, set-line-length, block-set-line-same, block-set-line-other, rows-by-blocks, record-length, block-of-record}
 use Rattle.bridge.proofs.TreeOfRecord.{treeOf-path, treeOf-path-of}
 use Rattle.bridge.proofs.NodesOnPaths.{same-node-exactly}
 use Rattle.bridge.proofs.SearchOnPaths.{FoundSpot}
 use Rattle.bridge.proofs.RouteOpening.{opened-path-new, opened-path-through, opened-path-beside, opened-path-none}
+use Rattle.bridge.proofs.WrittenPaths.{Written}
+use Rattle.bridge.proofs.BlockPaths.{path-of-block}
 use Rattle.bridge.proofs.ClosedRecord.{legal-block}
+use Rattle.bridge.proofs.RecordRoundTrip.{path-of-written}
 
 -- Lines split one after the other
 
@@ -110,14 +113,14 @@ module _ (plan : Plan) (L p : ℕ) (s : Spot) (is-legal : legal (plan .rows) ≡
   weight = row-of (s .level) ps .weight
 
   -- the path of another line afterwards
-  abbrev path-after : List Row → List Row
+  abbrev pub path-after : List Row → List Row
   path-after rs = if same-node (s .level) ps rs then (if ltb (s .divisor) weight then split-path (s .level) (s .divisor) rs else rs) else rs
 
   line-path : path (s .line) t ≡ some ps
   line-path = open-path plan (s .line) is-legal (found-spot .line-below) (let most = found-spot .level-below in omega arith)
 
   -- what a line through the node becomes, by the spot's own divisor
-  through-path : (M : ℕ) (rs : List Row) → path M t ≡ some rs → same-node (s .level) ps rs ≡ true →
+  pub through-path : (M : ℕ) (rs : List Row) → path M t ≡ some rs → same-node (s .level) ps rs ≡ true →
       path M (opened L p t) ≡ some (if ltb (s .divisor) weight then split-path (s .level) (s .divisor) rs else rs)
   unfolding place-of
   through-path M rs e h =
@@ -157,17 +160,20 @@ module _ (plan : Plan) (L p : ℕ) (s : Spot) (is-legal : legal (plan .rows) ≡
           let same : path-at (plan .rows) M ≡ rs = sym (treeOf-path-of plan M is-legal below) ∙ ap (λ (o : Option (List Row)). Option·getD o []) e in
           ap (λ (o : Option (List Row)). Option·getD o []) (open-path-after M rs e) ∙ ap path-after (sym same)
 
+  pub new-line-path : path L (opened L p t) ≡ some (booked-path (take (s .level) ps) (s .divisor) (s .class) (p / (s .step * s .divisor)))
+  new-line-path =
+      let new = opened-path-new L p t (place-of s) weight (found-spot .node .0) may (found-spot .chosen-is) (found-spot .node .1) in
+      new ∙ cc
+
   new-path : path-of L (opened L p t) ≡ booked-path (take (s .level) ps) (s .divisor) (s .class) (p / (s .step * s .divisor))
   unfolding path-of
-  new-path =
-      let new = opened-path-new L p t (place-of s) weight (found-spot .node .0) may (found-spot .chosen-is) (found-spot .node .1) in
-      ap (λ (o : Option (List Row)). Option·getD o []) new ∙ cc
+  new-path = ap (λ (o : Option (List Row)). Option·getD o []) new-line-path
 
   -- the record before the new line is placed
-  abbrev split-rows : List ℕ
+  abbrev pub split-rows : List ℕ
   split-rows = if ltb (s .divisor) weight then split-lines (plan .rows) ps (s .level) (s .divisor) 64 else plan .rows
 
-  split-rows-length : length split-rows ≡ 1408
+  pub split-rows-length : length split-rows ≡ 1408
   split-rows-length = by-test (ltb (s .divisor) weight)
     where
       by-test : (b : Bool) → length (if b then split-lines (plan .rows) ps (s .level) (s .divisor) 64 else plan .rows) ≡ 1408
@@ -195,6 +201,12 @@ module _ (plan : Plan) (L p : ℕ) (s : Spot) (is-legal : legal (plan .rows) ≡
           ≡ numbers (rows-11 (if same-node (s .level) ps rs then (if b then split-path (s .level) (s .divisor) rs else rs) else rs))
       by-split true = block-split (plan .rows) ps (s .level) (s .divisor) long 64 M (omega arith) below ∙ by-node (same-node (s .level) ps rs)
       by-split false = here ∙ either (same-node (s .level) ps rs)
+
+  -- the paths of that record
+  pub split-path-at : (M : ℕ) → M < 64 → (M ≡ L → ⊥) → path-at split-rows M ≡ path-after (path-at (plan .rows) M)
+  split-path-at M below other =
+      path-of-block split-rows M (path-after (path-at (plan .rows) M))
+      (subst Written (other-path M below other) (path-of-written (opened L p t) (opened-legal L p t may) M)) (block-before M below)
 
   pub booked-record : booked-at (plan .rows) L p s ≡ recordOf (opened L p t) .rows
   unfolding booked-at

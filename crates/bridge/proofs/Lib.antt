@@ -27,4 +27,5 @@ pub mod ClosedRecord
 pub mod RecordRoundTrip
 pub mod BookedRecord
 pub mod FirstRecord
+pub mod SpotFacts
 pub mod CallsOnRecords

@@ -8,7 +8,6 @@ use mathlib.Core.Path.{_≡_, refl, sym, _∙_, ap, ap₂}
 use mathlib.Core.Bool.{Bool, true, false, _&&_, _||_, and-eq-true-iff, or-true}
 use mathlib.Core.List.{List, [], _∷_}
 use mathlib.Core.Option.{Option, none, some, Option·getD, Option·none-ne-some}
-use lib.Dec.{eqb}
 use lib.ListN.{length}
 use Rattle.tree.specs.declared.Row.{Row}
 use Rattle.tree.specs.declared.Plan.{Plan}
@@ -22,7 +21,7 @@ use Rattle.tree.proofs.Depth.{at-most-11-above}
 use Rattle.tree.proofs.Numbering.{stands-number}
 use Rattle.tree.proofs.Standing.{path-stands, path-below}
 use Rattle.bridge.proofs.WrittenPaths.{Weighted, Written}
-use Rattle.bridge.proofs.Blocks.{block, rows-by-blocks, record-length, block-of-record}
+use Rattle.bridge.proofs.Blocks.{rows-by-blocks, record-length, block-of-record}
 use Rattle.bridge.proofs.BlockPaths.{path-of-block, rest-unused-of-block}
 use Rattle.bridge.proofs.SameTree.{same-paths-same-tree}
 use Rattle.bridge.proofs.TreeOfRecord.{treeOf-legal, treeOf-path, treeOf-path-beyond}
@@ -70,7 +69,7 @@ beyond-no-path t M is-legal beyond = by-path (path M t) refl
         absurd (omega arith)
 
 module _ (t : Tree) (is-legal : Legal t) where
-  path-of-written : (M : ℕ) → Written (path-of M t)
+  pub path-of-written : (M : ℕ) → Written (path-of M t)
   unfolding path-of Weighted
   path-of-written M = by-path (path M t) refl
     where
