@@ -4,6 +4,7 @@ pub mod AllBelow
 pub mod PathRest
 pub mod PathLength
 pub mod PathsPart
+pub mod SameNode
 pub mod PathRange
 pub mod UnusedRows
 -- The whole record

@@ -4,6 +4,7 @@ ghost use mathlib.Core.Path.{_≡_};
 ghost use Prim.Native.Nat.{_<_};
 ghost use lib.ListN.{length};
 ghost use Rattle.tree.specs.Record.{row-at, path-at, rest-unused, no-rows, parts, together, legal};
+ghost use Rattle.tree.specs.Paths.{same-node};
 ghost use Rattle.paths.specs.Answers.{lookup, rows-checked, path-checked, joins-earlier, line-legal};
 
 // What the lookup of a line finds: the number of rows of an open line's path.
@@ -90,6 +91,30 @@ pub fn parts(rows: &[u16; 1408], a: usize, b: usize) -> bool
         k += 1;
     }
     false
+}
+
+// Two paths go through the same node at a level: the same edges so far, and both go on.
+pub fn same_node(rows: &[u16; 1408], a: usize, b: usize, level: usize) -> bool
+    requires { ⌜ (a < 64) × (b < 64) × (level < 11) ⌝ }
+    ensures { λ r. ⌜ r ≡ same-node level (path-at (now (rows .entry)) a) (path-at (now (rows .entry)) b) ⌝ }
+{
+    let mut k = 0;
+    while k < level {
+        if weight(rows, a, k) == 0 {
+            return false;
+        }
+        if weight(rows, b, k) == 0 {
+            return false;
+        }
+        if edge(rows, a, k) != edge(rows, b, k) {
+            return false;
+        }
+        k += 1;
+    }
+    if weight(rows, a, level) == 0 {
+        return false;
+    }
+    weight(rows, b, level) != 0
 }
 
 // Two lines go together in one tree: one of them is closed, or their paths part.

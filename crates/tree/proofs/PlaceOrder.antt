@@ -14,11 +14,11 @@ use Rattle.tree.specs.Opening.{before, under}
 
 -- The test as a fact
 
-before-in-level : (a b : Place) → a .level ≡ b .level → before a b ≡ ltb (a .offset) (b .offset)
+pub before-in-level : (a b : Place) → a .level ≡ b .level → before a b ≡ ltb (a .offset) (b .offset)
 unfolding before
 before-in-level a b e = rw (eq-eqb (a .level) (b .level) e)
 
-before-across-levels : (a b : Place) → (a .level ≡ b .level → ⊥) → before a b ≡ ltb (b .level) (a .level)
+pub before-across-levels : (a b : Place) → (a .level ≡ b .level → ⊥) → before a b ≡ ltb (b .level) (a .level)
 unfolding before
 before-across-levels a b n = rw (ne-eqb (a .level) (b .level) n)
 

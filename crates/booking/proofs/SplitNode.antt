@@ -1,0 +1,139 @@
+-- The lines through a node, and the invariant of `split_node`'s loop: the lines passed are split where they go through the node, the others are as they were.
+-- Assumes nothing.
+use Prim.Native.Nat.{ℕ, zero, suc, _+_, _<_, _≤_, zero-le}
+use native.Mathlib.Omega.{arith}
+use native.Mathlib.Nat.{le-refl}
+use native.Mathlib.Decide.{ℕ-discrete}
+use native.Mathlib.Numerals.{add-one}
+use mathlib.Core.Path.{_≡_, refl, sym, _∙_, ap}
+use mathlib.Core.Bool.{Bool, true, false, _&&_, false≢true}
+use mathlib.Core.List.{List, [], _∷_}
+use lib.Dec.{eqb}
+use lib.ListN.{length}
+use Rattle.tree.specs.declared.Row.{Row}
+use Rattle.tree.specs.Search.{if_then_else_}
+use Rattle.tree.specs.Record.{row-at, path-at}
+use Rattle.tree.specs.Paths.{row-of, same-node, set-line, split-path, split-lines}
+use Rattle.paths.proofs.AllBelow.{both-true}
+use Rattle.paths.proofs.PathRest.{path-length-at-most-11}
+use Rattle.booking.specs.Writing.{RowLeft, SplittableOnLine, Splittable}
+use Rattle.booking.proofs.SetLine.{set-line-size, set-line-row, set-line-other}
+use Rattle.booking.proofs.PathRows.{path-row, path-weight, path-goes-on, path-same, rest-unused-same}
+use Rattle.booking.proofs.SplitPath.{split-row-above, split-row-at}
+
+-- a path through a node at level l has a row there
+same-node-row : (l : ℕ) (ps qs : List Row) → same-node l ps qs ≡ true → l < length qs
+unfolding same-node
+same-node-row l [] qs h = absurd (false≢true h)
+same-node-row l (p ∷ ps) [] h = absurd (false≢true h)
+same-node-row zero (p ∷ ps) (q ∷ qs) h = omega arith
+same-node-row (suc l) (p ∷ ps) (q ∷ qs) h = let later = same-node-row l ps qs (both-true (eqb (p .edge) (q .edge)) (same-node l ps qs) h .1) in omega arith
+
+-- the node hangs on the edges above it alone
+same-node-by-edges : (l : ℕ) (ps os : List Row) → l < length ps → l < length os → ((k : ℕ) → k < l → row-of k ps .edge ≡ row-of k os .edge) → (qs : List Row) → same-node l ps qs ≡ same-node l os qs
+unfolding same-node row-of
+same-node-by-edges l [] os h t same qs = absurd (omega arith)
+same-node-by-edges l (p ∷ ps) [] h t same qs = absurd (omega arith)
+same-node-by-edges l (p ∷ ps) (o ∷ os) h t same [] = refl
+same-node-by-edges zero (p ∷ ps) (o ∷ os) h t same (q ∷ qs) = refl
+same-node-by-edges (suc l) (p ∷ ps) (o ∷ os) h t same (q ∷ qs) = rw (same 0 (omega arith), same-node-by-edges l ps os (omega arith) (omega arith) (λ k below. same (suc k) (omega arith)) qs)
+
+-- a split of a line leaves its way to the node as it was
+module _ (rows : List ℕ) (size : length rows ≡ 1408) (L l d : ℕ) (below : L < 64) (above-0 : 0 < d) (on-path : l < length (path-at rows L)) (new : List ℕ) (split : new ≡ set-line rows L (split-path l d (path-at rows L))) where
+  new-row : (k : ℕ) → k < 11 → row-at new L k ≡ row-of k (split-path l d (path-at rows L))
+  new-row k within = rw split (set-line-row rows size L below (split-path l d (path-at rows L)) k within)
+
+  row-above : (k : ℕ) → k < l → row-at new L k ≡ row-of k (path-at rows L)
+  row-above k within = new-row k (omega (arith, path-length-at-most-11 rows L)) ∙ split-row-above l d k (path-at rows L) within
+
+  weight-here : row-at new L l .weight ≡ d
+  weight-here = ap (λ (r : Row). r .weight) (new-row l (omega (arith, path-length-at-most-11 rows L)) ∙ split-row-at l d (path-at rows L) on-path)
+
+  weights : (k : ℕ) → k ≤ l → Dec (k ≡ l) → row-at new L k .weight ≡ 0 → ⊥
+  weights k h (yes e) z = omega (arith, weight-here, ap (λ (j : ℕ). row-at new L j .weight) e)
+  weights k h (no other) z = path-weight rows L k (omega arith) (ap (λ (r : Row). r .weight) (sym (row-above k (omega arith) ∙ path-row rows L k (omega arith))) ∙ z)
+
+  goes-on : l < length (path-at new L)
+  goes-on = path-goes-on new L l (omega (arith, path-length-at-most-11 rows L)) (λ k h. weights k h (ℕ-discrete k l))
+
+  split-keeps-node : (qs : List Row) → same-node l (path-at new L) qs ≡ same-node l (path-at rows L) qs
+  split-keeps-node = same-node-by-edges l (path-at new L) (path-at rows L) goes-on on-path (λ k within. ap (λ (r : Row). r .edge) (path-row new L k (omega (arith, goes-on)) ∙ row-above k within))
+
+pub level-below-11 : {rows : List ℕ} {L l d : ℕ} → Splittable rows L l d → l < 11
+level-below-11 {rows} {L} splittable = omega (arith, path-length-at-most-11 rows L)
+
+-- the lines below n are split where they go through the node at level l of line L's path
+pub record SplitBelow (start rows : List ℕ) (L l d n : ℕ) : Type 0 where
+  pub within : n ≤ 64
+  pub splittable : Splittable start L l d
+  pub size : length rows ≡ 1408
+  pub same : rows ≡ split-lines start (path-at start L) l d n
+  pub node-kept : (qs : List Row) → same-node l (path-at rows L) qs ≡ same-node l (path-at start L) qs
+  pub not-reached : (M : ℕ) → n ≤ M → (k : ℕ) → k < 11 → row-at rows M k ≡ row-at start M k
+
+pub split-below-none : {start : List ℕ} {L l d : ℕ} → length start ≡ 1408 → Splittable start L l d → SplitBelow start start L l d 0
+unfolding split-lines
+split-below-none size splittable = record {
+  within = zero-le;
+  splittable = splittable;
+  size = size;
+  same = refl;
+  node-kept = λ qs. refl;
+  not-reached = λ M h k below. refl;
+}
+
+module _ {start rows : List ℕ} {L l d n : ℕ} (split : SplitBelow start rows L l d n) where
+  pub split-below-all : 64 ≤ n → rows ≡ split-lines start (path-at start L) l d 64
+  split-below-all past =
+      let all : n ≡ 64 = omega (arith, split .within) in
+      rw (← all) (split .same)
+
+  module _ (below : n < 64) {through : Bool} (read : through ≡ same-node l (path-at rows L) (path-at rows n)) where
+    path-kept : path-at rows n ≡ path-at start n
+    path-kept = path-same rows start n (split .not-reached n (le-refl n))
+
+    -- what the test says of the line at the start
+    test-kept : through ≡ same-node l (path-at start L) (path-at start n)
+    test-kept = read ∙ split .node-kept (path-at rows n) ∙ ap (same-node l (path-at start L)) path-kept
+
+    -- a line that goes by another way is passed
+    pub split-below-other : through ≡ false → SplitBelow start rows L l d (n + 1)
+    unfolding split-lines
+    split-below-other no-line = record {
+      within = omega arith;
+      splittable = split .splittable;
+      size = split .size;
+      same = rw (add-one, ← test-kept, no-line) (split .same);
+      node-kept = split .node-kept;
+      not-reached = λ M h. split .not-reached M (omega arith);
+    }
+
+    module _ (is-through : through ≡ true) where
+      pub through-splittable : SplittableOnLine rows n l d
+      through-splittable =
+          let left = split .splittable .row-left n below (sym test-kept ∙ is-through) in
+          record {
+            line-below-64 = below;
+            divisor-above-0 = split .splittable .divisor-above-0;
+            on-path = same-node-row l (path-at rows L) (path-at rows n) (sym read ∙ is-through);
+            row-left = record {
+              short = rw path-kept (left .short);
+              rest-is-unused = rest-unused-same start rows n (λ k h. sym (split .not-reached n (le-refl n) k h)) (left .rest-is-unused);
+            };
+          }
+
+      -- a line through the node is split
+      pub split-below-more : {new : List ℕ} → new ≡ set-line rows n (split-path l d (path-at rows n)) → SplitBelow start new L l d (n + 1)
+      unfolding split-lines
+      split-below-more {new} done = record {
+        within = omega arith;
+        splittable = split .splittable;
+        size = rw done (set-line-size rows (split .size) n below _);
+        same = rw (add-one, ← test-kept, is-through) (rw (← split .same, ← path-kept) done);
+        node-kept = λ qs. go (ℕ-discrete n L) qs ∙ split .node-kept qs;
+        not-reached = λ M h k within. rw done (set-line-other rows (split .size) n below _ M k (λ e. omega arith) within) ∙ split .not-reached M (omega arith) k within;
+      }
+        where
+          go : Dec (n ≡ L) → (qs : List Row) → same-node l (path-at new L) qs ≡ same-node l (path-at rows L) qs
+          go (yes e) qs = rw (← e) (split-keeps-node rows (split .size) n l d below (split .splittable .divisor-above-0) (through-splittable .on-path) new done qs)
+          go (no other) qs = rw (path-same new rows L (λ k within. rw done (set-line-other rows (split .size) n below _ L k (λ e. other (sym e)) within)))

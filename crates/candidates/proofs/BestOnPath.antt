@@ -1,0 +1,82 @@
+-- The invariants of the searches along one path (`Reached`, specs/Answers.antt) and over the lines.
+-- Assumes nothing.
+use Prim.Native.Nat.{ℕ, suc, _+_, _*_, _<_, _≤_, zero-le}
+use native.Mathlib.Omega.{arith}
+use native.Mathlib.Numerals.{add-one}
+use mathlib.Core.Path.{_≡_, refl, sym}
+use mathlib.Core.Bool.{true}
+use mathlib.Core.List.{List}
+use mathlib.Core.Option.{Option}
+use lib.ListN.{length, take}
+use Rattle.tree.specs.Tree.{product, sum-from, sum}
+use Rattle.tree.specs.Record.{row-at, path-at, legal}
+use Rattle.tree.specs.Paths.{Spot, spot-at, better-spot, best-on-path, best-of-lines}
+use Rattle.paths.proofs.LegalLines.{legal-in-range}
+use Rattle.candidates.specs.declared.Chosen.{Chosen}
+use Rattle.candidates.specs.declared.Chosen.the-variants.{Nothing}
+use Rattle.candidates.specs.Answers.{spot-of, Reached}
+use Rattle.candidates.proofs.PathRows.{path-row}
+use Rattle.candidates.proofs.PathNumbers.{product-more, sum-more, Bounded, path-numbers}
+
+-- Along one path
+
+pub at-root : (rows : List ℕ) (L p : ℕ) {best : Option Spot} → best ≡ best-of-lines (path-at rows) p L → Reached (path-at rows) p L 0 1 0 best
+unfolding product sum sum-from best-on-path
+at-root rows L p earlier = record { within = zero-le; step-is = refl; offset-is = refl; best-is = earlier }
+
+module _ (rows : List ℕ) {p L l m r : ℕ} {best : Option Spot} (reached : Reached (path-at rows) p L l m r best) where
+  pub at-end : {earlier : Option Spot} → earlier ≡ best-of-lines (path-at rows) p L → length (path-at rows L) ≤ l → best ≡ best-on-path (path-at rows) p earlier L (length (path-at rows L))
+  at-end before past =
+      let e : l ≡ length (path-at rows L) = omega (arith, reached .within) in
+      rw before (rw e at (reached .best-is))
+
+  module _ (is-legal : legal rows ≡ true) (line-below : L < 64) where
+    numbers : (l : ℕ) → Bounded (path-at rows L) l
+    numbers = path-numbers (path-at rows L) (legal-in-range rows is-legal L line-below)
+
+    pub step-positive : 0 < m
+    step-positive = omega (arith, reached .step-is, numbers l .offset-below)
+
+    module _ (below : l < length (path-at rows L)) where
+      offset-next : {e : ℕ} → e ≡ row-at rows L l .edge → r + e * m ≡ sum (take (suc l) (path-at rows L))
+      offset-next read = rw (reached .offset-is, reached .step-is, read, ← path-row rows L l below) (sym (sum-more (path-at rows L) l below))
+
+      step-next : {w : ℕ} → w ≡ row-at rows L l .weight → m * w ≡ product (take (suc l) (path-at rows L))
+      step-next read = rw (reached .step-is, read, ← path-row rows L l below) (sym (product-more (path-at rows L) l below))
+
+      -- the next offset and the next step are small
+      pub offset-small : {e : ℕ} → e ≡ row-at rows L l .edge → r + e * m ≤ 4095
+      offset-small read = let n = numbers (suc l) in omega (arith, offset-next read)
+
+      pub step-small : {w : ℕ} → w ≡ row-at rows L l .weight → m * w ≤ 4095
+      step-small read = let n = numbers (suc l) in omega (arith, step-next read)
+
+      pub next-level : {next : Option Spot} → next ≡ better-spot best (spot-at (path-at rows) p L l) → {e w : ℕ} → e ≡ row-at rows L l .edge → w ≡ row-at rows L l .weight → Reached (path-at rows) p L (l + 1) (m * w) (r + e * m) next
+      unfolding best-on-path
+      next-level better read-edge read-weight = record {
+        within = omega arith;
+        step-is = rw add-one (step-next read-weight);
+        offset-is = rw add-one (offset-next read-edge);
+        best-is = rw (add-one, ← reached .best-is) better;
+      }
+
+-- Over the lines
+
+-- the best of the lines below n
+pub record BestOf (rows : List ℕ) (p : ℕ) (best : Chosen) (n : ℕ) : Type 0 where
+  pub within : n ≤ 64
+  pub best-is : spot-of best ≡ best-of-lines (path-at rows) p n
+
+pub best-of-none : (rows : List ℕ) (p : ℕ) → BestOf rows p Nothing 0
+unfolding spot-of best-of-lines
+best-of-none rows p = record { within = zero-le; best-is = refl }
+
+module _ {rows : List ℕ} {p : ℕ} {best : Chosen} {n : ℕ} (best-of : BestOf rows p best n) where
+  pub best-of-more : n < 64 → {next : Chosen} → spot-of next ≡ best-on-path (path-at rows) p (spot-of best) n (length (path-at rows n)) → BestOf rows p next (n + 1)
+  unfolding best-of-lines
+  best-of-more below better = record { within = omega arith; best-is = rw (add-one, ← best-of .best-is) better }
+
+  pub best-of-all : 64 ≤ n → spot-of best ≡ best-of-lines (path-at rows) p 64
+  best-of-all past =
+      let e : n ≡ 64 = omega (arith, best-of .within) in
+      rw e at (best-of .best-is)

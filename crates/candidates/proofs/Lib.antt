@@ -1,0 +1,11 @@
+pub mod Euclid
+pub mod SameNode
+pub mod NoneBelow
+pub mod PathRows
+pub mod FreeClass
+pub mod Spots
+pub mod NothingBetter
+pub mod SeenEarlier
+pub mod BetterOffer
+pub mod PathNumbers
+pub mod BestOnPath

@@ -1,0 +1,202 @@
+// The search for the chosen candidate, over the lent array of a legal plan record.
+ghost use mathlib.Core.Path.{_≡_};
+ghost use mathlib.Core.Bool.{true};
+ghost use Prim.Native.Nat.{_<_};
+ghost use lib.ListN.{length};
+ghost use Rattle.tree.specs.Numbers.{gcd, divides};
+ghost use Rattle.tree.specs.Record.{path-at, legal};
+ghost use Rattle.tree.specs.Paths.{same-node, class-on-path, spot-with, spot-at, better-spot, best-on-path, best-of-lines};
+ghost use Rattle.candidates.specs.Answers.{class-of, spot-of, comes-first, seen-earlier, Reached};
+use paths::edge;
+use paths::path_length;
+use paths::weight;
+
+// What the search for a class finds: the smallest free one, or none.
+pub enum Class {
+    Free(u16),
+    Full,
+}
+
+// A candidate: the node at a level of a line's path, its offset and step, its divisor, and the class that is taken.
+pub struct Spot {
+    pub line: usize,
+    pub level: usize,
+    pub offset: u16,
+    pub step: u16,
+    pub divisor: u16,
+    pub class: u16,
+}
+
+// What the search for a candidate finds.
+pub enum Chosen {
+    At(Spot),
+    Nothing,
+}
+
+// The greatest common divisor, by Euclid's algorithm.
+pub fn gcd(a: u16, b: u16) -> u16
+    ensures { λ r. ⌜ r ≡ gcd a b ⌝ }
+{
+    let mut larger = a;
+    let mut smaller = b;
+    while smaller != 0 {
+        let rest = larger % smaller;
+        larger = smaller;
+        smaller = rest;
+    }
+    larger
+}
+
+// The paths of two lines go through the same node at a level.
+pub fn same_node(rows: &[u16; 1408], a: usize, b: usize, level: usize) -> bool
+    requires { ⌜ (a < 64) × (b < 64) × (level < 11) ⌝ }
+    ensures { λ r. ⌜ r ≡ same-node level (path-at (now (rows .entry)) a) (path-at (now (rows .entry)) b) ⌝ }
+{
+    for k in 0..level {
+        if weight(rows, a, k) == 0 {
+            return false;
+        }
+        if weight(rows, b, k) == 0 {
+            return false;
+        }
+        if edge(rows, a, k) != edge(rows, b, k) {
+            return false;
+        }
+    }
+    if weight(rows, a, level) == 0 {
+        return false;
+    }
+    weight(rows, b, level) != 0
+}
+
+// The smallest class modulo d that no line through the node takes.
+pub fn free_class(rows: &[u16; 1408], line: usize, level: usize, d: u16) -> Class
+    requires { ⌜ (line < 64) × (level < 11) ⌝ }
+    ensures { λ r. ⌜ class-of r ≡ class-on-path (path-at (now (rows .entry))) (path-at (now (rows .entry)) line) level d ⌝ }
+{
+    'classes: for class in 0..d {
+        for other in 0..64 {
+            if edge(rows, other, level) % d == class {
+                if same_node(rows, line, other, level) {
+                    continue 'classes;
+                }
+            }
+        }
+        return Class::Free(class);
+    }
+    Class::Full
+}
+
+// What the node at a level of a line's path has to offer, where its step divides the period.
+fn spot_at(
+    rows: &[u16; 1408],
+    line: usize,
+    level: usize,
+    step: u16,
+    offset: u16,
+    period: u16,
+) -> Chosen
+    requires { ⌜ (line < 64) × (level < length (path-at (now rows) line)) × (0 < step) × (divides step period ≡ true) ⌝ }
+    ensures { λ r. ⌜ spot-of r ≡ spot-with (path-at (now (rows .entry))) period line level step offset ⌝ }
+{
+    let divisor = gcd(weight(rows, line, level), period / step);
+    let found = free_class(rows, line, level, divisor);
+    let Class::Free(class) = found else {
+        return Chosen::Nothing;
+    };
+    Chosen::At(Spot {
+        line,
+        level,
+        offset,
+        step,
+        divisor,
+        class,
+    })
+}
+
+// A place comes before the best so far, or there is none so far.
+fn comes_first(level: usize, offset: u16, best: Chosen) -> bool
+    ensures { λ r. ⌜ r ≡ comes-first (record { level = level; offset = offset }) (spot-of best) ⌝ }
+{
+    let Chosen::At(first) = best else {
+        return true;
+    };
+    if level == first.level {
+        return offset < first.offset;
+    }
+    first.level < level
+}
+
+// The path of a line of smaller number goes through the node at a level of this line's path.
+fn seen_earlier(rows: &[u16; 1408], line: usize, level: usize) -> bool
+    requires { ⌜ (line < 64) × (level < 11) ⌝ }
+    ensures { λ r. ⌜ r ≡ seen-earlier (path-at (now (rows .entry))) line level ⌝ }
+{
+    for earlier in 0..line {
+        if same_node(rows, earlier, line, level) {
+            return true;
+        }
+    }
+    false
+}
+
+// The better of the best so far and what the node at a level of a line's path has to offer.
+// No class is searched for where the node would not come first, or was seen on the path of an earlier line.
+fn better(
+    rows: &[u16; 1408],
+    line: usize,
+    level: usize,
+    step: u16,
+    offset: u16,
+    period: u16,
+    best: Chosen,
+) -> Chosen
+    requires { ⌜ (line < 64) × (legal (now rows) ≡ true) × (level < length (path-at (now rows) line)) ⌝ }
+    requires { ⌜ Reached (path-at (now rows)) period line level step offset (spot-of best) ⌝ }
+    ensures { λ r. ⌜ spot-of r ≡ better-spot (spot-of best) (spot-at (path-at (now (rows .entry))) period line level) ⌝ }
+{
+    if !comes_first(level, offset, best) {
+        return best;
+    }
+    if period % step != 0 {
+        return best;
+    }
+    if seen_earlier(rows, line, level) {
+        return best;
+    }
+    let offer = spot_at(rows, line, level, step, offset, period);
+    let Chosen::At(spot) = offer else {
+        return best;
+    };
+    Chosen::At(spot)
+}
+
+// The best of the earlier lines, or the best node of a line's path where that comes first.
+fn best_on_path(rows: &[u16; 1408], line: usize, period: u16, earlier: Chosen) -> Chosen
+    requires { ⌜ (line < 64) × (legal (now rows) ≡ true) ⌝ }
+    requires { ⌜ spot-of earlier ≡ best-of-lines (path-at (now rows)) period line ⌝ }
+    ensures { λ r. ⌜ spot-of r ≡ best-on-path (path-at (now (rows .entry))) period (spot-of earlier) line (length (path-at (now (rows .entry)) line)) ⌝ }
+{
+    let count = path_length(rows, line);
+    let mut best = earlier;
+    let mut step: u16 = 1;
+    let mut offset: u16 = 0;
+    for level in 0..count {
+        best = better(rows, line, level, step, offset, period, best);
+        offset += edge(rows, line, level) * step;
+        step *= weight(rows, line, level);
+    }
+    best
+}
+
+// The chosen candidate for a period.
+pub fn best_candidate(rows: &[u16; 1408], period: u16) -> Chosen
+    requires { ⌜ legal (now rows) ≡ true ⌝ }
+    ensures { λ r. ⌜ spot-of r ≡ best-of-lines (path-at (now (rows .entry))) period 64 ⌝ }
+{
+    let mut best = Chosen::Nothing;
+    for line in 0..64 {
+        best = best_on_path(rows, line, period, best);
+    }
+    best
+}
