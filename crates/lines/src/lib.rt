@@ -31,6 +31,7 @@ pub fn close_line(rows: &mut [u16; 1408], line: u64) -> CloseAnswer
     requires { ⌜ legal (now rows) ≡ true ⌝ }
     ensures { λ r. ⌜ CarriedOut (close-line line) (now (rows .entry)) (now (rows .exit)) (close-answer r) ⌝ }
 {
+    paths::whole(rows);
     if 63 < line {
         return CloseAnswer::Refused(1);
     }
