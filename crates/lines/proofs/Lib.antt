@@ -1,1 +1,3 @@
 pub mod CloseLine
+pub mod SplitIfSmaller
+pub mod OpenLine

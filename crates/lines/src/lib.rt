@@ -3,14 +3,14 @@ ghost use mathlib.Core.Path.{_≡_};
 ghost use mathlib.Core.Bool.{true, false};
 ghost use Prim.Native.Nat.{_<_, _≤_};
 ghost use Rattle.tree.specs.Calls.{open-line, close-line};
-ghost use Rattle.tree.specs.Refusals.{period-out-of-range};
+ghost use mathlib.Core.Option.{none};
+ghost use Rattle.tree.specs.Search.{all-below};
 ghost use Rattle.tree.specs.Record.{path-at, no-rows, legal};
 ghost use Rattle.tree.specs.Paths.{best-of-lines};
 ghost use Rattle.candidates.specs.Answers.{spot-of};
 ghost use Rattle.bridge.specs.Rows.{CarriedOut};
 ghost use Rattle.lines.specs.Answers.{open-answer, close-answer};
-use candidates::Chosen;
-use candidates::Spot;
+ghost use Rattle.lines.specs.Bookable.{Bookable, BookableAt, SplittableIfSmaller, split-if-smaller};
 use paths::Found;
 use tree::Start;
 
@@ -42,4 +42,41 @@ pub fn close_line(rows: &mut [u16; 1408], line: u64) -> CloseAnswer
     };
     booking::clear_line(rows, at);
     CloseAnswer::Done
+}
+
+// No line is open: the plan is empty.
+fn all_closed(rows: &[u16; 1408]) -> bool
+    ensures { λ r. ⌜ r ≡ all-below 64 (λ M. no-rows (path-at (now (rows .entry)) M)) ⌝ }
+{
+    let mut line = 0;
+    while line < 64 {
+        if !paths::is_closed(rows, line) {
+            return false;
+        }
+        line += 1;
+    }
+    true
+}
+
+// The node at a level of a line's path is split by d where d is below its weight.
+fn split_if_smaller(rows: &mut [u16; 1408], line: usize, level: usize, d: u16)
+    requires { ⌜ SplittableIfSmaller (now rows) line level d ⌝ }
+    ensures { λ _. ⌜ now (rows .exit) ≡ split-if-smaller (now (rows .entry)) line level d ⌝ }
+{
+    if d < paths::weight(rows, line, level) {
+        booking::split_node(rows, line, level, d);
+    }
+}
+
+// The first line of a plan gets a root of its period. A plan that has lines and no candidate refuses with 5.
+fn book_first(rows: &mut [u16; 1408], line: usize, period: u16) -> OpenAnswer
+    requires { ⌜ Bookable (now rows) line period × (best-of-lines (path-at (now rows)) period 64 ≡ none) ⌝ }
+    ensures { λ r. ⌜ CarriedOut (open-line line period) (now (rows .entry)) (now (rows .exit)) (open-answer r) ⌝ }
+{
+    paths::whole(rows);
+    if !all_closed(rows) {
+        return OpenAnswer::Refused(5);
+    }
+    booking::place_first(rows, line, period);
+    OpenAnswer::Booked(Start(0))
 }

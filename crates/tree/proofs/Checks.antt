@@ -43,20 +43,27 @@ neither : (a b : Bool) → (a || b) ≡ false → (a ≡ false) × (b ≡ false)
 neither false b h = (refl, h)
 neither true b h = absurd (true≢false h)
 
+-- a period that is not out of range
+pub range-positive : (p : ℕ) → period-out-of-range p ≡ false → 0 < p
+unfolding period-out-of-range
+range-positive p inside = let not-zero = eqb-false p 0 (neither (eqb p 0) (ltb 4095 p) inside .0) in omega arith
+
+pub range-at-most : (p : ℕ) → period-out-of-range p ≡ false → p ≤ 4095
+unfolding period-out-of-range
+range-at-most p inside = ltb-false 4095 p (neither (eqb p 0) (ltb 4095 p) inside .1)
+
 pub open-may : (L p : ℕ) (t : Tree) → Legal t → open-refusal L p t ≡ none → MayOpen L p t
-unfolding open-refusal first-refusal earlier-checks line-above-63 period-out-of-range
+unfolding open-refusal first-refusal earlier-checks line-above-63
 open-may L p t legal h =
     let one = none-strikes (ltb 63 L) 1 _ h in
-    let two = none-strikes (eqb p 0 || ltb 4095 p) 2 _ (one .1) in
+    let two = none-strikes (period-out-of-range p) 2 _ (one .1) in
     let three = none-strikes (is-open L t) 3 _ (two .1) in
     let five = none-strikes (no-room p t) 5 _ (three .1) in
-    let range = neither (eqb p 0) (ltb 4095 p) (two .0) in
-    let not-zero = eqb-false p 0 (range .0) in
     record {
       legal = legal;
       number-in-range = ltb-false 63 L (one .0);
-      period-positive = omega arith;
-      period-in-range = ltb-false 4095 p (range .1);
+      period-positive = range-positive p (two .0);
+      period-in-range = range-at-most p (two .0);
       not-open = three .0;
       has-room = five .0;
     }

@@ -1,0 +1,173 @@
+-- The ways that an open can go on a legal record.
+-- Assumes nothing.
+use Prim.Native.Nat.{ℕ, zero, suc, _+_, _*_, _/_, _<_, _≤_}
+use native.Mathlib.Omega.{arith}
+use native.Mathlib.Nat.{lt-irrefl}
+use mathlib.Core.Path.{_≡_, refl, sym, _∙_, ap, ap₂}
+use mathlib.Core.Bool.{Bool, true, false, not, false≢true}
+use mathlib.Core.List.{List, [], _∷_}
+use mathlib.Core.Option.{none, some}
+use lib.Dec.{ltb}
+use lib.ListN.{length, take, length-take}
+use Rattle.tree.specs.declared.Row.{Row}
+use Rattle.tree.specs.Search.{if_then_else_, all-below}
+use Rattle.tree.specs.Tree.{row}
+use Rattle.tree.specs.Refusals.{period-out-of-range}
+use Rattle.tree.specs.Calls.{open-line, refusal, refused, booked}
+use Rattle.tree.specs.Record.{path-at, rest-unused, no-rows, legal}
+use Rattle.tree.specs.Paths.{row-of, same-node, Spot, best-of-lines, set-line, split-path, split-lines, booked-path, booked-at}
+use Rattle.tree.proofs.Checks.{range-positive, range-at-most, open-refused-1, open-refused-2, open-refused-3, zero-out-of-range, above-out-of-range}
+use Rattle.tree.proofs.Opening.{MayOpen}
+use Rattle.paths.proofs.AllBelow.{all-below-each, all-below-faulty}
+use Rattle.paths.proofs.LegalLines.{legal-rest-unused}
+use Rattle.booking.specs.Writing.{RowLeft, Splittable, Placeable}
+use Rattle.bridge.specs.Rows.{tree-of, CarriedOut}
+use Rattle.bridge.proofs.SearchOnPaths.{FoundSpot}
+use Rattle.bridge.proofs.FirstRecord.{AllClosed}
+use Rattle.bridge.proofs.CallsOnRecords.{refused-on, open-by-rows, open-first-on, open-full-on, spot-found, may-open, open-booked-on}
+use Rattle.bridge.proofs.SpotFacts.{divisor-positive, product-at-most, product-positive, start-below, row-left, rows-fit}
+use Rattle.bridge.proofs.BookedRecord.{split-path-at}
+use Rattle.lines.specs.Bookable.{Bookable, BookableAt, SplittableIfSmaller, split-if-smaller}
+
+-- Refused before the search
+
+pub open-above : (rows : List ℕ) (L p : ℕ) → 63 < L → CarriedOut (open-line L p) rows rows (refused 1)
+unfolding refusal
+open-above rows L p above = refused-on (open-line L p) rows 1 (open-refused-1 L p (tree-of rows) above)
+
+pub open-zero : (rows : List ℕ) (L p : ℕ) → L ≤ 63 → p ≡ 0 → CarriedOut (open-line L p) rows rows (refused 2)
+unfolding refusal
+open-zero rows L p number h = refused-on (open-line L p) rows 2 (open-refused-2 L p (tree-of rows) number (zero-out-of-range p h))
+
+pub open-long : (rows : List ℕ) (L p : ℕ) → L ≤ 63 → 0 < p → 4095 < p → CarriedOut (open-line L p) rows rows (refused 2)
+unfolding refusal
+open-long rows L p number positive above =
+    refused-on (open-line L p) rows 2 (open-refused-2 L p (tree-of rows) number (above-out-of-range p positive above))
+
+pub open-again : (rows : List ℕ) (L p : ℕ) → legal rows ≡ true → length rows ≡ 1408 → L ≤ 63 → period-out-of-range p ≡ false → no-rows (path-at rows L) ≡ false → CarriedOut (open-line L p) rows rows (refused 3)
+unfolding refusal
+open-again rows L p is-legal long number inside there =
+    refused-on (open-line L p) rows 3
+    (open-refused-3 L p (tree-of rows) number inside (open-by-rows rows is-legal long L (omega arith) ∙ ap not there))
+
+-- Without a candidate
+
+module _ (rows : List ℕ) (L p : ℕ) (ready : Bookable rows L p) (long : length rows ≡ 1408) where
+  pub open-full : best-of-lines (path-at rows) p 64 ≡ none → all-below 64 (λ M. no-rows (path-at rows M)) ≡ false → CarriedOut (open-line L p) rows rows (refused 5)
+  open-full none-found some-open =
+      let there = all-below-faulty 64 _ some-open in
+      open-full-on rows (ready .is-legal) long L p (ready .number) (ready .inside) (ready .absent) (there .0) (there .1) (there .2) none-found
+
+  pub open-first : all-below 64 (λ M. no-rows (path-at rows M)) ≡ true → CarriedOut (open-line L p) rows (set-line rows L (row p 0 ∷ [])) (booked 0)
+  unfolding AllClosed
+  open-first none-open =
+      open-first-on rows (ready .is-legal) long L p (ready .number) (ready .inside) (ready .absent) (range-positive p (ready .inside))
+      (all-below-each 64 _ none-open)
+
+-- At the chosen candidate
+
+no-rows-length : (rs : List Row) → no-rows rs ≡ true → length rs ≡ 0
+unfolding no-rows
+no-rows-length [] h = refl
+no-rows-length (r ∷ rs) h = absurd (false≢true h)
+
+take-split-path : (l d : ℕ) (rs : List Row) → take l (split-path l d rs) ≡ take l rs
+unfolding split-path
+take-split-path zero d [] = refl
+take-split-path (suc l) d [] = refl
+take-split-path zero d (r ∷ rs) = refl
+take-split-path (suc l) d (r ∷ rs) = ap (_∷_ r) (take-split-path l d rs)
+
+module _ (rows : List ℕ) (L p : ℕ) (s : Spot) (ready-at : BookableAt rows L p s) (long : length rows ≡ 1408) where
+  abbrev ready : Bookable rows L p
+  ready = ready-at .bookable
+
+  found-spot : FoundSpot p (tree-of rows) (path-at rows) s
+  found-spot = spot-found rows (ready .is-legal) long L p (ready .number) (ready .inside) (ready .absent) s (ready-at .found-one)
+
+  may : MayOpen L p (tree-of rows)
+  may = may-open rows (ready .is-legal) long L p (ready .number) (ready .inside) (ready .absent) s (ready-at .found-one)
+
+  pub open-booked : CarriedOut (open-line L p) rows (booked-at rows L p s) (booked (s .offset + s .class * s .step))
+  open-booked = open-booked-on rows (ready .is-legal) long L p (ready .number) (ready .inside) (ready .absent) s (ready-at .found-one)
+
+  -- the numbers that the code computes are in range
+  pub product-fits : s .step * s .divisor ≤ 4095
+  unfolding tree-of
+  product-fits =
+      let most = product-at-most (record { rows = rows }) L p s (ready .is-legal) long may found-spot in
+      let range = range-at-most p (ready .inside) in
+      omega arith
+
+  pub product-not-zero : 0 < s .step * s .divisor
+  unfolding tree-of
+  product-not-zero = product-positive (record { rows = rows }) L p s (ready .is-legal) long may found-spot
+
+  pub start-fits : s .offset + s .class * s .step < 4095
+  unfolding tree-of
+  start-fits =
+      let below = start-below (record { rows = rows }) L p s (ready .is-legal) long may found-spot in
+      let range = range-at-most p (ready .inside) in
+      omega arith
+
+  pub spot-splittable : SplittableIfSmaller rows (s .line) (s .level) (s .divisor)
+  unfolding tree-of
+  spot-splittable =
+      record {
+        line-below = found-spot .line-below;
+        on-path = found-spot .level-below;
+        splittable = λ small. record {
+          line-below-64 = found-spot .line-below;
+          divisor-above-0 = divisor-positive (record { rows = rows }) L p s (ready .is-legal) long may found-spot;
+          on-path = found-spot .level-below;
+          row-left = λ M below through. record {
+            short = row-left (record { rows = rows }) L p s (ready .is-legal) long may found-spot M below through small;
+            rest-is-unused = legal-rest-unused rows (ready .is-legal) M below
+          }
+        }
+      }
+
+  -- the line through the node is another one
+  other-line : s .line ≡ L → ⊥
+  other-line same =
+      let none : length (path-at rows (s .line)) ≡ 0 = ap (λ (M : ℕ). length (path-at rows M)) same ∙ no-rows-length (path-at rows L) (ready .absent) in
+      let below = found-spot .level-below in
+      omega arith
+
+  -- the record after the split: the way down to the node is the same
+  abbrev after : List ℕ
+  after = split-if-smaller rows (s .line) (s .level) (s .divisor)
+
+  way-after : take (s .level) (path-at after (s .line)) ≡ take (s .level) (path-at rows (s .line))
+  unfolding split-if-smaller tree-of
+  way-after =
+      ap (take (s .level)) (split-path-at (record { rows = rows }) L p s (ready .is-legal) long may found-spot (s .line) (found-spot .line-below) other-line)
+      ∙ either (same-node (s .level) ps ps) (ltb (s .divisor) (row-of (s .level) ps .weight))
+    where
+      ps : List Row
+      ps = path-at rows (s .line)
+      either : (a b : Bool) → take (s .level) (if a then (if b then split-path (s .level) (s .divisor) ps else ps) else ps) ≡ take (s .level) ps
+      either true true = take-split-path (s .level) (s .divisor) ps
+      either true false = refl
+      either false b = refl
+
+  pub spot-placeable : (q : ℕ) → q ≡ p / (s .step * s .divisor) → Placeable after L (s .line) (s .level) (s .divisor) (s .class) q
+  unfolding tree-of
+  spot-placeable q h =
+      let below = found-spot .level-below in
+      let before = length-take (s .level) (path-at rows (s .line)) in
+      let now-long = length-take (s .level) (path-at after (s .line)) in
+      let same = ap length way-after in
+      let number = ready .number in
+      record {
+        line-below-64 = omega arith;
+        from-below-64 = found-spot .line-below;
+        another-line = other-line;
+        on-path = omega arith;
+        rows-left = rw (way-after, h) (rows-fit (record { rows = rows }) L p s (ready .is-legal) long may found-spot)
+      }
+
+  pub placed-is-booked : (q : ℕ) → q ≡ p / (s .step * s .divisor) →
+      set-line after L (booked-path (take (s .level) (path-at after (s .line))) (s .divisor) (s .class) q) ≡ booked-at rows L p s
+  unfolding booked-at split-if-smaller
+  placed-is-booked q h = ap₂ (λ (rs : List Row) (k : ℕ). set-line after L (booked-path rs (s .divisor) (s .class) k)) way-after h
