@@ -9,6 +9,7 @@ use Rattle.tree.specs.Search.{some-below}
 use Rattle.tree.specs.Tree.{product, sum, Place}
 use Rattle.tree.specs.Opening.{before}
 use Rattle.tree.specs.Paths.{Family, same-node, Spot, place-of, best-on-path, best-of-lines}
+use Rattle.candidates.specs.declared.Spot.{Spot as FoundSpot}
 use Rattle.candidates.specs.declared.Class.{Class}
 use Rattle.candidates.specs.declared.Class.the-variants.{Free, Full}
 use Rattle.candidates.specs.declared.Chosen.{Chosen}
@@ -19,9 +20,21 @@ unfoldable pub class-of : Class → Option ℕ
 class-of (Free i) = some i
 class-of Full = none
 
+-- a candidate of the code as one of the definitions
+abbrev pub spot-in : FoundSpot → Spot
+spot-in s =
+    record {
+      line = s .line;
+      level = s .level;
+      offset = s .offset;
+      step = s .step;
+      divisor = s .divisor;
+      class = s .class;
+    }
+
 -- the candidate that was found
 unfoldable pub spot-of : Chosen → Option Spot
-spot-of (At s) = some (record { line = s .line; level = s .level; offset = s .offset; step = s .step; divisor = s .divisor; class = s .class })
+spot-of (At s) = some (spot-in s)
 spot-of Nothing = none
 
 -- a place comes before the best so far, or there is none so far

@@ -122,9 +122,9 @@ module _ (rows : List ℕ) (L p : ℕ) (s : Spot) (ready-at : BookableAt rows L 
           on-path = found-spot .level-below;
           row-left = λ M below through. record {
             short = row-left (record { rows = rows }) L p s (ready .is-legal) long may found-spot M below through small;
-            rest-is-unused = legal-rest-unused rows (ready .is-legal) M below
-          }
-        }
+            rest-is-unused = legal-rest-unused rows (ready .is-legal) M below;
+          };
+        };
       }
 
   -- the line through the node is another one
@@ -146,6 +146,7 @@ module _ (rows : List ℕ) (L p : ℕ) (s : Spot) (ready-at : BookableAt rows L 
     where
       ps : List Row
       ps = path-at rows (s .line)
+
       either : (a b : Bool) → take (s .level) (if a then (if b then split-path (s .level) (s .divisor) ps else ps) else ps) ≡ take (s .level) ps
       either true true = take-split-path (s .level) (s .divisor) ps
       either true false = refl
@@ -164,7 +165,7 @@ module _ (rows : List ℕ) (L p : ℕ) (s : Spot) (ready-at : BookableAt rows L 
         from-below-64 = found-spot .line-below;
         another-line = other-line;
         on-path = omega arith;
-        rows-left = rw (way-after, h) (rows-fit (record { rows = rows }) L p s (ready .is-legal) long may found-spot)
+        rows-left = rw (way-after, h) (rows-fit (record { rows = rows }) L p s (ready .is-legal) long may found-spot);
       }
 
   pub placed-is-booked : (q : ℕ) → q ≡ p / (s .step * s .divisor) →

@@ -7,10 +7,12 @@ ghost use mathlib.Core.Option.{none};
 ghost use Rattle.tree.specs.Search.{all-below};
 ghost use Rattle.tree.specs.Record.{path-at, no-rows, legal};
 ghost use Rattle.tree.specs.Paths.{best-of-lines};
-ghost use Rattle.candidates.specs.Answers.{spot-of};
+ghost use Rattle.candidates.specs.Answers.{spot-in};
 ghost use Rattle.bridge.specs.Rows.{CarriedOut};
 ghost use Rattle.lines.specs.Answers.{open-answer, close-answer};
 ghost use Rattle.lines.specs.Bookable.{Bookable, BookableAt, SplittableIfSmaller, split-if-smaller};
+use candidates::Chosen;
+use candidates::Spot;
 use paths::Found;
 use tree::Start;
 
@@ -79,4 +81,56 @@ fn book_first(rows: &mut [u16; 1408], line: usize, period: u16) -> OpenAnswer
     }
     booking::place_first(rows, line, period);
     OpenAnswer::Booked(Start(0))
+}
+
+// The line is booked at the chosen candidate.
+fn book_at(rows: &mut [u16; 1408], line: usize, period: u16, spot: Spot) -> OpenAnswer
+    requires { ⌜ BookableAt (now rows) line period (spot-in spot) ⌝ }
+    ensures { λ r. ⌜ CarriedOut (open-line line period) (now (rows .entry)) (now (rows .exit)) (open-answer r) ⌝ }
+{
+    paths::whole(rows);
+    let from = spot.line;
+    let level = spot.level;
+    let step = spot.step;
+    let divisor = spot.divisor;
+    let class = spot.class;
+    let quotient = period / (step * divisor);
+    let start = spot.offset + class * step;
+    split_if_smaller(rows, from, level, divisor);
+    booking::place_line(rows, line, from, level, divisor, class, quotient);
+    OpenAnswer::Booked(Start(start))
+}
+
+// The line is booked at the chosen candidate, as the first of the plan, or not at all.
+fn book_line(rows: &mut [u16; 1408], line: usize, period: u16) -> OpenAnswer
+    requires { ⌜ Bookable (now rows) line period ⌝ }
+    ensures { λ r. ⌜ CarriedOut (open-line line period) (now (rows .entry)) (now (rows .exit)) (open-answer r) ⌝ }
+{
+    let chosen = candidates::best_candidate(rows, period);
+    let Chosen::At(spot) = chosen else {
+        return book_first(rows, line, period);
+    };
+    book_at(rows, line, period, spot)
+}
+
+// Open: 1 for a line above 63, 2 for a period out of range, 3 for a line that is open, 5 where there is no candidate; else the line is booked.
+pub fn open_line(rows: &mut [u16; 1408], line: u64, period: u16) -> OpenAnswer
+    requires { ⌜ legal (now rows) ≡ true ⌝ }
+    ensures { λ r. ⌜ CarriedOut (open-line line period) (now (rows .entry)) (now (rows .exit)) (open-answer r) ⌝ }
+{
+    paths::whole(rows);
+    if 63 < line {
+        return OpenAnswer::Refused(1);
+    }
+    if period == 0 {
+        return OpenAnswer::Refused(2);
+    }
+    if 4095 < period {
+        return OpenAnswer::Refused(2);
+    }
+    let at = line as usize;
+    if !paths::is_closed(rows, at) {
+        return OpenAnswer::Refused(3);
+    }
+    book_line(rows, at, period)
 }
