@@ -1,11 +1,11 @@
 -- The rows of a booked path (`booked-path`, crate tree, specs/Paths.antt), the invariant of `place_line`'s loop, and the path of a first line.
 -- Assumes nothing.
-use Prim.Native.Nat.{ℕ, zero, suc, _+_, _<_, _≤_, zero-le}
+use Prim.Native.Nat.{ℕ, suc, _+_, _<_, _≤_, zero-le}
 use native.Mathlib.Omega.{arith}
 use mathlib.Core.Path.{_≡_, refl, sym, _∙_, ap, ap₂}
-use mathlib.Core.List.{List, [], _∷_, _++_}
+use mathlib.Core.List.{List, [], _∷_}
 use lib.Dec.{eqb}
-use lib.ListN.{length, take, length-append, List·getD-append, List·getD-eq-default}
+use lib.ListN.{length, take, length-append, List·getD-append}
 use lib.Seq.{length-take-le, getD-take, getD-append-seam, getD-append-add}
 use borrow.Author.Tests.{eq-eqb, ne-eqb}
 use Rattle.tree.specs.declared.Row.{Row}

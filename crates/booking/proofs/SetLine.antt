@@ -6,7 +6,7 @@ use native.Mathlib.Decide.{ℕ-discrete, decLt}
 use mathlib.Core.Path.{_≡_, refl, sym, _∙_, ap, ap₂}
 use mathlib.Core.Logic.{_⊎_, inl, inr}
 use mathlib.Core.List.{List, [], _∷_, _++_}
-use lib.ListN.{length, getD, take, drop, replicate, length-append, length-drop, length-replicate, getD-replicate, List·getD-append, List·getD-eq-default}
+use lib.ListN.{length, getD, take, drop, replicate, length-append, length-drop, length-replicate, List·getD-append}
 use lib.Seq.{length-take-le, getD-append-add, getD-take, getD-drop}
 use Rattle.tree.specs.declared.Row.{Row}
 use Rattle.tree.specs.Tree.{row}

@@ -5,18 +5,18 @@ use native.Mathlib.Omega.{arith}
 use native.Mathlib.Nat.{le-refl}
 use native.Mathlib.Decide.{ℕ-discrete}
 use native.Mathlib.Numerals.{add-one}
-use mathlib.Core.Path.{_≡_, refl, sym, _∙_, ap}
-use mathlib.Core.Bool.{Bool, true, false, _&&_, false≢true}
+use mathlib.Core.Path.{_≡_, refl, sym, _∙_, ap, ap₂}
+use mathlib.Core.Bool.{Bool, true, false, false≢true}
 use mathlib.Core.List.{List, [], _∷_}
 use lib.Dec.{eqb}
-use lib.ListN.{length}
+use lib.ListN.{length, take}
 use Rattle.tree.specs.declared.Row.{Row}
 use Rattle.tree.specs.Search.{if_then_else_}
 use Rattle.tree.specs.Record.{row-at, path-at}
 use Rattle.tree.specs.Paths.{row-of, same-node, set-line, split-path, split-lines}
 use Rattle.paths.proofs.AllBelow.{both-true}
 use Rattle.paths.proofs.PathRest.{path-length-at-most-11}
-use Rattle.booking.specs.Writing.{RowLeft, SplittableOnLine, Splittable}
+use Rattle.booking.specs.Writing.{SplittableOnLine, Splittable}
 use Rattle.booking.proofs.SetLine.{set-line-size, set-line-row, set-line-other}
 use Rattle.booking.proofs.PathRows.{path-row, path-weight, path-goes-on, path-same, rest-unused-same}
 use Rattle.booking.proofs.SplitPath.{split-row-above, split-row-at}
@@ -38,6 +38,14 @@ same-node-by-edges l (p ∷ ps) (o ∷ os) h t same [] = refl
 same-node-by-edges zero (p ∷ ps) (o ∷ os) h t same (q ∷ qs) = refl
 same-node-by-edges (suc l) (p ∷ ps) (o ∷ os) h t same (q ∷ qs) = rw (same 0 (omega arith), same-node-by-edges l ps os (omega arith) (omega arith) (λ k below. same (suc k) (omega arith)) qs)
 
+-- two paths with the same rows above a level
+same-take : (l : ℕ) (ps os : List Row) → l ≤ length ps → l ≤ length os → ((k : ℕ) → k < l → row-of k ps ≡ row-of k os) → take l ps ≡ take l os
+unfolding row-of
+same-take zero ps os h t same = refl
+same-take (suc l) [] os h t same = absurd (omega arith)
+same-take (suc l) (p ∷ ps) [] h t same = absurd (omega arith)
+same-take (suc l) (p ∷ ps) (o ∷ os) h t same = ap₂ _∷_ (same 0 (omega arith)) (same-take l ps os (omega arith) (omega arith) (λ k below. same (suc k) (omega arith)))
+
 -- a split of a line leaves its way to the node as it was
 module _ (rows : List ℕ) (size : length rows ≡ 1408) (L l d : ℕ) (below : L < 64) (above-0 : 0 < d) (on-path : l < length (path-at rows L)) (new : List ℕ) (split : new ≡ set-line rows L (split-path l d (path-at rows L))) where
   new-row : (k : ℕ) → k < 11 → row-at new L k ≡ row-of k (split-path l d (path-at rows L))
@@ -53,11 +61,11 @@ module _ (rows : List ℕ) (size : length rows ≡ 1408) (L l d : ℕ) (below : 
   weights k h (yes e) z = omega (arith, weight-here, ap (λ (j : ℕ). row-at new L j .weight) e)
   weights k h (no other) z = path-weight rows L k (omega arith) (ap (λ (r : Row). r .weight) (sym (row-above k (omega arith) ∙ path-row rows L k (omega arith))) ∙ z)
 
-  goes-on : l < length (path-at new L)
-  goes-on = path-goes-on new L l (omega (arith, path-length-at-most-11 rows L)) (λ k h. weights k h (ℕ-discrete k l))
+  split-goes-on : l < length (path-at new L)
+  split-goes-on = path-goes-on new L l (omega (arith, path-length-at-most-11 rows L)) (λ k h. weights k h (ℕ-discrete k l))
 
-  split-keeps-node : (qs : List Row) → same-node l (path-at new L) qs ≡ same-node l (path-at rows L) qs
-  split-keeps-node = same-node-by-edges l (path-at new L) (path-at rows L) goes-on on-path (λ k within. ap (λ (r : Row). r .edge) (path-row new L k (omega (arith, goes-on)) ∙ row-above k within))
+  split-keeps-row : (k : ℕ) → k < l → row-of k (path-at new L) ≡ row-of k (path-at rows L)
+  split-keeps-row k h = path-row new L k (omega (arith, split-goes-on)) ∙ row-above k h
 
 pub level-below-11 : {rows : List ℕ} {L l d : ℕ} → Splittable rows L l d → l < 11
 level-below-11 {rows} {L} splittable = omega (arith, path-length-at-most-11 rows L)
@@ -68,7 +76,8 @@ pub record SplitBelow (start rows : List ℕ) (L l d n : ℕ) : Type 0 where
   pub splittable : Splittable start L l d
   pub size : length rows ≡ 1408
   pub same : rows ≡ split-lines start (path-at start L) l d n
-  pub node-kept : (qs : List Row) → same-node l (path-at rows L) qs ≡ same-node l (path-at start L) qs
+  pub goes-on : l < length (path-at rows L)
+  pub way-kept : (k : ℕ) → k < l → row-of k (path-at rows L) ≡ row-of k (path-at start L)
   pub not-reached : (M : ℕ) → n ≤ M → (k : ℕ) → k < 11 → row-at rows M k ≡ row-at start M k
 
 pub split-below-none : {start : List ℕ} {L l d : ℕ} → length start ≡ 1408 → Splittable start L l d → SplitBelow start start L l d 0
@@ -78,7 +87,8 @@ split-below-none size splittable = record {
   splittable = splittable;
   size = size;
   same = refl;
-  node-kept = λ qs. refl;
+  goes-on = splittable .on-path;
+  way-kept = λ k h. refl;
   not-reached = λ M h k below. refl;
 }
 
@@ -94,7 +104,10 @@ module _ {start rows : List ℕ} {L l d n : ℕ} (split : SplitBelow start rows 
 
     -- what the test says of the line at the start
     test-kept : through ≡ same-node l (path-at start L) (path-at start n)
-    test-kept = read ∙ split .node-kept (path-at rows n) ∙ ap (same-node l (path-at start L)) path-kept
+    test-kept =
+        read
+        ∙ same-node-by-edges l (path-at rows L) (path-at start L) (split .goes-on) (split .splittable .on-path) (λ k h. ap (λ (r : Row). r .edge) (split .way-kept k h)) (path-at rows n)
+        ∙ ap (same-node l (path-at start L)) path-kept
 
     -- a line that goes by another way is passed
     pub split-below-other : through ≡ false → SplitBelow start rows L l d (n + 1)
@@ -104,7 +117,8 @@ module _ {start rows : List ℕ} {L l d n : ℕ} (split : SplitBelow start rows 
       splittable = split .splittable;
       size = split .size;
       same = rw (add-one, ← test-kept, no-line) (split .same);
-      node-kept = split .node-kept;
+      goes-on = split .goes-on;
+      way-kept = split .way-kept;
       not-reached = λ M h. split .not-reached M (omega arith);
     }
 
@@ -130,10 +144,39 @@ module _ {start rows : List ℕ} {L l d n : ℕ} (split : SplitBelow start rows 
         splittable = split .splittable;
         size = rw done (set-line-size rows (split .size) n below _);
         same = rw (add-one, ← test-kept, is-through) (rw (← split .same, ← path-kept) done);
-        node-kept = λ qs. go (ℕ-discrete n L) qs ∙ split .node-kept qs;
+        goes-on = still-goes-on (ℕ-discrete n L);
+        way-kept = λ k h. still-kept k h (ℕ-discrete n L) ∙ split .way-kept k h;
         not-reached = λ M h k within. rw done (set-line-other rows (split .size) n below _ M k (λ e. omega arith) within) ∙ split .not-reached M (omega arith) k within;
       }
         where
-          go : Dec (n ≡ L) → (qs : List Row) → same-node l (path-at new L) qs ≡ same-node l (path-at rows L) qs
-          go (yes e) qs = rw (← e) (split-keeps-node rows (split .size) n l d below (split .splittable .divisor-above-0) (through-splittable .on-path) new done qs)
-          go (no other) qs = rw (path-same new rows L (λ k within. rw done (set-line-other rows (split .size) n below _ L k (λ e. other (sym e)) within)))
+          other-path : (n ≡ L → ⊥) → path-at new L ≡ path-at rows L
+          other-path other = path-same new rows L (λ k within. rw done (set-line-other rows (split .size) n below _ L k (λ e. other (sym e)) within))
+
+          still-goes-on : Dec (n ≡ L) → l < length (path-at new L)
+          still-goes-on (yes e) = rw (← e) (split-goes-on rows (split .size) n l d below (split .splittable .divisor-above-0) (through-splittable .on-path) new done)
+          still-goes-on (no other) = rw (other-path other) (split .goes-on)
+
+          still-kept : (k : ℕ) → k < l → Dec (n ≡ L) → row-of k (path-at new L) ≡ row-of k (path-at rows L)
+          still-kept k h (yes e) = rw (← e) (split-keeps-row rows (split .size) n l d below (split .splittable .divisor-above-0) (through-splittable .on-path) new done k h)
+          still-kept k h (no other) = rw (other-path other)
+
+-- What a split keeps
+
+module _ {start : List ℕ} {L l d : ℕ} (size : length start ≡ 1408) (splittable : Splittable start L l d) where
+  pub split-below : (n : ℕ) → n ≤ 64 → SplitBelow start (split-lines start (path-at start L) l d n) L l d n
+  unfolding split-lines
+  split-below zero within = split-below-none size splittable
+  split-below (suc n) within = rw (← add-one n) (go (split-below n (omega arith)) (same-node l (path-at start L) (path-at start n)) refl)
+    where
+      so-far : List ℕ
+      so-far = split-lines start (path-at start L) l d n
+
+      go : SplitBelow start so-far L l d n → (b : Bool) → same-node l (path-at start L) (path-at start n) ≡ b → SplitBelow start (if b then set-line so-far n (split-path l d (path-at start n)) else so-far) L l d (n + 1)
+      go split true e = split-below-more split (omega arith) refl (test-kept split (omega arith) refl ∙ e) (rw (path-kept split (omega arith) refl))
+      go split false e = split-below-other split (omega arith) refl (test-kept split (omega arith) refl ∙ e)
+
+  -- the way to the node
+  pub split-keeps-way : take l (path-at (split-lines start (path-at start L) l d 64) L) ≡ take l (path-at start L)
+  split-keeps-way =
+      let split = split-below 64 (le-refl 64) in
+      same-take l (path-at (split-lines start (path-at start L) l d 64) L) (path-at start L) (omega (arith, split .goes-on)) (omega (arith, splittable .on-path)) (split .way-kept)

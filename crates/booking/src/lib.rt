@@ -1,12 +1,11 @@
 // What an open and a close write into the lent array of a plan record: the rows of one line, or of all lines through a node.
 // Row k of line L is the pair of numbers at 22 * L + 2 * k.
 ghost use mathlib.Core.Path.{_≡_};
-ghost use mathlib.Core.Bool.{true};
 ghost use mathlib.Core.List.{[], _∷_};
-ghost use Prim.Native.Nat.{_<_, _≤_};
+ghost use Prim.Native.Nat.{_<_};
 ghost use lib.ListN.{length, take};
 ghost use Rattle.tree.specs.Tree.{row};
-ghost use Rattle.tree.specs.Record.{path-at, rest-unused};
+ghost use Rattle.tree.specs.Record.{path-at};
 ghost use Rattle.tree.specs.Paths.{set-line, split-path, split-lines, booked-path};
 ghost use Rattle.booking.specs.Writing.{set-row, SplittableOnLine, Splittable, Placeable};
 use paths::edge;

@@ -33,13 +33,13 @@ module _ {family : Family} {p L l m r : ℕ} (best : Chosen) (reached : Reached 
   -- b answered whether the node's place comes first
   module _ {b : Bool} (answered : b ≡ comes-first (record { level = l; offset = r }) (spot-of best)) where
     pub not-first : b ≡ false → spot-of best ≡ better-spot (spot-of best) (spot-at family p L l)
-    not-first later = rw offer-is (sym (stays-best _ (spot-of best) (sym answered ∙ later) _ (spot-with-place family p L l m r)))
+    not-first later = rw offer-is (sym (stays-best _ (spot-of best) _ (sym answered ∙ later) (spot-with-place family p L l m r)))
 
     pub first-offer : {x : Chosen} → spot-of x ≡ spot-with family p L l m r → b ≡ true → (s : Spot) → x ≡ At s → spot-of (At s) ≡ better-spot (spot-of best) (spot-at family p L l)
     unfolding spot-of
     first-offer found first s told =
         let offered = sym found ∙ ap spot-of told in
-        rw (offer-is, offered) (sym (becomes-best _ (spot-of best) (sym answered ∙ first) _ (spot-with-place family p L l m r _ offered)))
+        rw (offer-is, offered) (sym (becomes-best _ (spot-of best) _ (sym answered ∙ first) (spot-with-place family p L l m r _ offered)))
 
 -- b answered whether an earlier line goes through the node
 pub seen-before : (rows : List ℕ) {p L l m r : ℕ} (best : Chosen) → Reached (path-at rows) p L l m r (spot-of best) → legal rows ≡ true → L < 64 → {b : Bool} → b ≡ seen-earlier (path-at rows) L l → b ≡ true → spot-of best ≡ better-spot (spot-of best) (spot-at (path-at rows) p L l)

@@ -14,7 +14,7 @@ use Rattle.tree.specs.Paths.{same-node}
 use Rattle.paths.proofs.PathRest.{path-rest, path-rest-start, path-rest-row, path-rest-end, zero-or-not}
 
 -- no path goes through a node of one without rows
-pub same-node-none : (l : ℕ) (ps : List Row) → same-node l ps [] ≡ false
+same-node-none : (l : ℕ) (ps : List Row) → same-node l ps [] ≡ false
 unfolding same-node
 same-node-none l [] = refl
 same-node-none l (p ∷ ps) = refl

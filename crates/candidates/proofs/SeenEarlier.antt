@@ -23,11 +23,9 @@ use Rattle.candidates.proofs.NoneBelow.{NoneBelow, none-below-more, non
 use Rattle.candidates.proofs.PathRows.{same-node-goes-on}
 use Rattle.candidates.proofs.NothingBetter.{NoBetter, no-better-place, place-no-better, path-keeps, lines-searched}
 
--- what a node of step m and offset r at level l of line M's path offers, with divisor d: b says whether the step divides, and i is the class found
-offer : ℕ → ℕ → ℕ → ℕ → ℕ → Bool → Option ℕ → Option Spot
-offer M l m r d b i = if b then Option·map (λ c. record { line = M; level = l; offset = r; step = m; divisor = d; class = c }) i else none
+-- One node
 
--- two paths that go through the same node at level l: the rows above it, and its weight
+-- two paths through one node at level l: the rows above it, its weight, and which other paths go through it
 pub record OneNode (l : ℕ) (ps qs : List Row) : Type 0 where
   pub rows-above : take l ps ≡ take l qs
   pub weight-is : row-of l ps .weight ≡ row-of l qs .weight
@@ -43,8 +41,8 @@ unfolding same-node
 below-through l p q ps qs [] same later = refl
 below-through l p q ps qs (r ∷ rs) same later = rw (same, later rs)
 
--- two paths that part go through one node where the code finds them to
-one-node : (l : ℕ) (ps qs : List Row) → parts ps qs ≡ true → same-node l ps qs ≡ true → OneNode l ps qs
+-- in one tree, two paths with the same edges as far as level l go through one node there
+pub one-node : (l : ℕ) (ps qs : List Row) → parts ps qs ≡ true → same-node l ps qs ≡ true → OneNode l ps qs
 unfolding parts same-node row-of
 one-node l [] qs part meet = absurd (false≢true part)
 one-node l (p ∷ ps) [] part meet = absurd (false≢true part)
@@ -67,29 +65,29 @@ one-node (suc l) (p ∷ ps) (q ∷ qs) part meet =
 
 -- One offer
 
+-- what a node of step m and offset r at level l of line M's path offers, with divisor d: b says whether the step divides, and i is the class found
+offer : ℕ → ℕ → ℕ → ℕ → ℕ → Bool → Option ℕ → Option Spot
+offer M l m r d b i = if b then Option·map (λ c. record { line = M; level = l; offset = r; step = m; divisor = d; class = c }) i else none
+
 same-class : (family : Family) (ps qs : List Row) (l d : ℕ) → OneNode l ps qs → class-on-path family ps l d ≡ class-on-path family qs l d
 unfolding class-on-path class-taken
 same-class family ps qs l d one = simp (one .through)
 
-module _ (family : Family) (p M L l : ℕ) (one : OneNode l (family M) (family L)) (o : Option Spot) where
-  -- an offer that differs in the line alone
-  other-line : (m r d : ℕ) (b : Bool) (i : Option ℕ) → NoBetter (offer M l m r d b i) o → NoBetter (offer L l m r d b i) o
-  unfolding offer place-of better-spot
-  other-line m r d b i h = go b i o h
-    where
-      go : (b : Bool) (i : Option ℕ) (o : Option Spot) → NoBetter (offer M l m r d b i) o → NoBetter (offer L l m r d b i) o
-      go false i o h = h
-      go true none o h = h
-      go true (some i) none h = absurd (Option·some-ne-none _ h)
-      go true (some i) (some s) h = place-no-better _ s (no-better-place _ s h)
+-- offers that differ in the line alone are no better together
+other-line : (M L l m r d : ℕ) (b : Bool) (i : Option ℕ) (o : Option Spot) → NoBetter (offer M l m r d b i) o → NoBetter (offer L l m r d b i) o
+unfolding offer place-of better-spot
+other-line M L l m r d false i o h = h
+other-line M L l m r d true none o h = h
+other-line M L l m r d true (some i) none h = absurd (Option·some-ne-none _ h)
+other-line M L l m r d true (some i) (some s) h = place-no-better _ s (no-better-place _ s h)
 
-  same-offer : NoBetter (spot-at family p M l) o → NoBetter (spot-at family p L l) o
-  unfolding spot-at spot-with offer
-  same-offer h =
-      let m = product (take l (family L)) in
-      let d = divisor p m (row-of l (family L) .weight) in
-      other-line m (sum (take l (family L))) d (divides m p) (class-on-path family (family L) l d)
-      (rw (one .rows-above, one .weight-is, same-class family (family M) (family L) l _ one) at h)
+same-offer : (family : Family) (p M L l : ℕ) → OneNode l (family M) (family L) → (o : Option Spot) → NoBetter (spot-at family p M l) o → NoBetter (spot-at family p L l) o
+unfolding spot-at spot-with offer
+same-offer family p M L l one o h =
+    let m = product (take l (family L)) in
+    let d = divisor p m (row-of l (family L) .weight) in
+    other-line M L l m (sum (take l (family L))) d (divides m p) (class-on-path family (family L) l d) o
+    (rw (one .rows-above, one .weight-is, same-class family (family M) (family L) l _ one) at h)
 
 -- A node seen earlier
 

@@ -63,25 +63,18 @@ spot-with-place family p M l m r s h = go (divides m p) (class-on-path family (f
 
 -- The better of two
 
-module _ (a : Place) (o : Option Spot) where
-  -- where the place does not come first, nothing found there is better
-  pub stays-best : comes-first a o ≡ false → (q : Option Spot) → ((s : Spot) → q ≡ some s → place-of s ≡ a) → better-spot o q ≡ o
-  unfolding comes-first better-spot
-  stays-best later q at-place = go o q later at-place
-    where
-      go : (o q : Option Spot) → comes-first a o ≡ false → ((s : Spot) → q ≡ some s → place-of s ≡ a) → better-spot o q ≡ o
-      go none q h k = absurd (true≢false h)
-      go (some b) none h k = refl
-      go (some b) (some s) h k = rw (k s refl, h)
+-- where the place does not come first, nothing found there is better
+pub stays-best : (a : Place) (o q : Option Spot) → comes-first a o ≡ false → ((s : Spot) → q ≡ some s → place-of s ≡ a) → better-spot o q ≡ o
+unfolding comes-first better-spot
+stays-best a none q later at-place = absurd (true≢false later)
+stays-best a (some b) none later at-place = refl
+stays-best a (some b) (some s) later at-place = rw (at-place s refl, later)
 
-  -- where it does, whatever is found there is better
-  pub becomes-best : comes-first a o ≡ true → (s : Spot) → place-of s ≡ a → better-spot o (some s) ≡ some s
-  unfolding comes-first better-spot
-  becomes-best first s at-place = go o first
-    where
-      go : (o : Option Spot) → comes-first a o ≡ true → better-spot o (some s) ≡ some s
-      go none h = refl
-      go (some b) h = rw (at-place, h)
+-- where it does, whatever is found there is better
+pub becomes-best : (a : Place) (o : Option Spot) (s : Spot) → comes-first a o ≡ true → place-of s ≡ a → better-spot o (some s) ≡ some s
+unfolding comes-first better-spot
+becomes-best a none s first at-place = refl
+becomes-best a (some b) s first at-place = rw (at-place, first)
 
 pub better-than-none : (o : Option Spot) → better-spot o none ≡ o
 unfolding better-spot

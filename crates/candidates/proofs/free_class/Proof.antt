@@ -4,6 +4,7 @@
 use Prim.Native.Nat.{_-_}
 use mathlib.Core.Path.{sym}
 use mathlib.Core.Logic.{⊎-elim}
+use native.Mathlib.Omega.{arith}
 use borrow.Author.Needs.{needs}
 use Rattle.candidates.specs.Answers.{class-of}
 use Rattle.candidates.proofs.NoneBelow.{none-below-start}
@@ -49,7 +50,7 @@ classes-again c =
     let same-class = c .before .before in
     let in-loop = same-class .before .before in
     let in-classes = in-loop .before .before in
-    class-passed (in-loop .before .loop .inv) (in-loop .loop-test .taken) (same-class .before .edge .ensures) (c .before .same-node .ensures) (in-classes .before .classes .inv) (in-classes .classes-test .taken) (same-class .if1 .taken) (c .if2 .taken)
+    class-passed (in-loop .before .loop .inv) (omega arith) (same-class .before .edge .ensures) (c .before .same-node .ensures) (in-classes .before .classes .inv) (in-classes .classes-test .taken) (same-class .if1 .taken) (c .if2 .taken)
 
 add-other : tie.Need-add-other Inv-loop μ-loop Inv-classes μ-classes
 add-other c = search needs
@@ -61,15 +62,15 @@ loop-again : tie.Need-loop-again Inv-loop μ-loop Inv-classes μ-classes
 loop-again c =
     let in-loop = c .before .before in
     ⊎-elim
-    (λ way. other-node (in-loop .before .loop .inv) (in-loop .loop-test .taken) (c .before .edge .ensures) (way .1 .ensures) (way .2 .left))
-    (λ way. other-class (in-loop .before .loop .inv) (in-loop .loop-test .taken) (c .before .edge .ensures) (way .left))
+    (λ way. other-node (in-loop .before .loop .inv) (omega arith) (c .before .edge .ensures) (way .1 .ensures) (way .2 .left))
+    (λ way. other-class (in-loop .before .loop .inv) (omega arith) (c .before .edge .ensures) (way .left))
     (c .if1 .came)
 
 returns : tie.Need-returns Inv-loop μ-loop Inv-classes μ-classes
 unfolding class-of
 returns c =
     let in-classes = c .before .before in
-    sym (class-free (c .before .loop .inv) (in-classes .before .classes .inv) (in-classes .classes-test .taken) (c .loop-test .left))
+    sym (class-free (c .before .loop .inv) (in-classes .before .classes .inv) (in-classes .classes-test .taken) (omega arith))
 
 returns-2 : tie.Need-returns-2 Inv-loop μ-loop Inv-classes μ-classes
 unfolding class-of
