@@ -27,3 +27,5 @@ pub mod ClosedRecord
 pub mod BookedRecord
 pub mod FirstRecord
 pub mod CallsOnRecords
+-- The walk over paths is the walk over the tree
+pub mod WalkOnPaths

@@ -190,18 +190,21 @@ module _ (t : Tree) (legal : Legal t) (a : Place) (w : ℕ) (f : ℕ → Tree) (
         row-is = getD-at (way a t) (row w e) (x .1) (row 0 0) (a .level) long;
       }
 
-  -- what stands under the edge taken: below it the line's path goes on, and the next level of that path is there
-  pub through-edge : (e : ℕ) (x : LineThrough t a w e) → (path (x .line) (f e) ≡ some (drop (suc (a .level)) (x .rows))) × (at (place-on (suc (a .level)) (x .rows)) t ≡ f e)
-  through-edge e x =
-      let y = path-node (x .line) t (a .level) (x .rows) (x .path-is) (x .level-below) in
-      let same-place : place-on (a .level) (x .rows) ≡ a = λ i. record { level = a .level; offset = x .offset-is i } in
-      let same-node = sym (y .node-is) ∙ ap (λ b. at b t) same-place ∙ here in
-      let same-edge : row-of (a .level) (x .rows) .edge ≡ e = ap (λ (r : Row). r .edge) (x .row-is) in
-      let under-edge : y .edges (row-of (a .level) (x .rows) .edge) ≡ f e = cc in
-      (ap (path (x .line)) (sym under-edge) ∙ y .path-is, y .below-is ∙ under-edge)
+  -- under the edge that a path takes at the node, the path goes on, and the path's next level is there
+  pub under-edge-taken :
+      (N : ℕ) (qs : List Row) → path N t ≡ some qs → a .level < length qs → sum (take (a .level) qs) ≡ a .offset →
+      (path N (f (row-of (a .level) qs .edge)) ≡ some (drop (suc (a .level)) qs)) × (at (place-on (suc (a .level)) qs) t ≡ f (row-of (a .level) qs .edge))
+  under-edge-taken N qs h long offset =
+      let y = path-node N t (a .level) qs h long in
+      let same-place : place-on (a .level) qs ≡ a = λ i. record { level = a .level; offset = offset i } in
+      let one-node = sym (y .node-is) ∙ ap (λ b. at b t) same-place ∙ here in
+      let under-edge : y .edges (row-of (a .level) qs .edge) ≡ f (row-of (a .level) qs .edge) = cc in
+      (ap (path N) (sym under-edge) ∙ y .path-is, y .below-is ∙ under-edge)
 
   through-present : (e : ℕ) → LineThrough t a w e → present (f e) ≡ true
-  through-present e x = stands-present (x .line) _ _ _ (path-stands (x .line) _ _ (through-edge e x .0))
+  through-present e x =
+      let under-edge = under-edge-taken (x .line) (x .rows) (x .path-is) (x .level-below) (x .offset-is) .0 in
+      ap (λ (r : Row). present (f (r .edge))) (sym (x .row-is)) ∙ stands-present (x .line) _ _ _ (path-stands (x .line) _ _ under-edge)
 
   -- an edge is present exactly when a line takes it
   pub edge-present : (e : ℕ) → e < w → (present (f e) ≡ true) ↔ LineThrough t a w e
