@@ -29,3 +29,5 @@ pub mod FirstRecord
 pub mod CallsOnRecords
 -- The walk over paths is the walk over the tree
 pub mod WalkOnPaths
+-- Asking a record
+pub mod AskingRecords
