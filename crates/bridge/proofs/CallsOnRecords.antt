@@ -2,7 +2,7 @@
 -- Assumes nothing.
 use Prim.Native.Nat.{ℕ, _+_, _*_, _<_, _≤_}
 use native.Mathlib.Omega.{arith}
-use mathlib.Core.Path.{_≡_, refl, sym, _∙_, ap, subst}
+use mathlib.Core.Path.{_≡_, sym, _∙_, ap, subst}
 use mathlib.Core.Bool.{Bool, true, false, not, _&&_, and-false}
 use mathlib.Core.List.{List, [], _∷_}
 use mathlib.Core.Option.{Option, none, some}
@@ -21,7 +21,7 @@ use Rattle.tree.proofs.Standing.{open-stands}
 use Rattle.tree.proofs.Checks.{open-last-check, close-allowed, open-may}
 use Rattle.tree.proofs.Opening.{MayOpen, start-empty}
 use Rattle.bridge.specs.Rows.{tree-of, rows-unless, rows-after, CarriedOut}
-use Rattle.bridge.proofs.TreeOfRecord.{treeOf-legal, treeOf-path, treeOf-path-of}
+use Rattle.bridge.proofs.TreeOfRecord.{treeOf-legal, treeOf-open, treeOf-paths}
 use Rattle.bridge.proofs.ClosedRecord.{closed-record}
 use Rattle.bridge.proofs.FirstRecord.{AllClosed, all-closed-nothing, first-record}
 use Rattle.bridge.proofs.ClassOnPaths.{PathsOf}
@@ -44,12 +44,8 @@ module _ (rows : List ℕ) (is-legal : legal rows ≡ true) (long : length rows 
 
   -- a line is open in the tree where its path in the record has rows
   pub open-by-rows : (L : ℕ) → L < 64 → is-open L t ≡ not (no-rows (path-at rows L))
-  unfolding is-open tree-of found
-  open-by-rows L below = ap found (treeOf-path (record { rows = rows }) L is-legal below) ∙ by-rows (no-rows (path-at rows L))
-    where
-      by-rows : (b : Bool) → found (if b then none else some (path-at rows L)) ≡ not b
-      by-rows true = refl
-      by-rows false = refl
+  unfolding tree-of
+  open-by-rows L below = treeOf-open (record { rows = rows }) L is-legal below
 
   -- Close
 
@@ -83,7 +79,7 @@ module _ (rows : List ℕ) (is-legal : legal rows ≡ true) (long : length rows 
     -- the paths of the record are those of its tree
     paths : PathsOf t (path-at rows)
     unfolding tree-of
-    paths M below = sym (treeOf-path-of (record { rows = rows }) M is-legal below)
+    paths = treeOf-paths (record { rows = rows }) is-legal
 
     tree-legal : Legal t
     unfolding tree-of

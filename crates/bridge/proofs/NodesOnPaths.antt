@@ -39,6 +39,7 @@ pub record NodeOnPath (M : ℕ) (t : Tree) (l : ℕ) (rs : List Row) : Type 0 wh
   pub node-is : at (place-on l rs) t ≡ node (row-of l rs .weight) edges
   pub edge-below : row-of l rs .edge < row-of l rs .weight
   pub path-is : path M (edges (row-of l rs .edge)) ≡ some (drop (suc l) rs)
+  pub below-is : at (place-on (suc l) rs) t ≡ edges (row-of l rs .edge)
 
 way-under : (w e : ℕ) (f : ℕ → Tree) (a : Place) → e < w → way (under w e a) (node w f) ≡ row w e ∷ way a (f e)
 unfolding way way-by-digits under
@@ -49,10 +50,20 @@ place-under : (w e l : ℕ) (rs : List Row) → place-on (suc l) (row w e ∷ rs
 unfolding under
 place-under w e l rs i = record { level = suc l; offset = sum-row (row w e) (take l rs) i }
 
+at-row-under : (w e l : ℕ) (f : ℕ → Tree) (rs : List Row) → e < w → at (place-on (suc l) (row w e ∷ rs)) (node w f) ≡ at (place-on l rs) (f e)
+at-row-under w e l f rs below = ap (λ a. at a (node w f)) (place-under w e l rs) ∙ at-under w e below f (place-on l rs)
+
 root-on-path : (M w e : ℕ) (f : ℕ → Tree) (rs : List Row) → e < w → path M (f e) ≡ some rs → NodeOnPath M (node w f) 0 (row w e ∷ rs)
 unfolding way way-by-digits at at-digits sum sum-from row-of
 root-on-path M w e f rs below h =
-    record { edges = f; way-is = refl; node-is = refl; edge-below = below; path-is = h }
+    record {
+      edges = f;
+      way-is = refl;
+      node-is = refl;
+      edge-below = below;
+      path-is = h;
+      below-is = at-row-under w e 0 f rs below;
+    }
 
 node-under : (M w e l : ℕ) (f : ℕ → Tree) (rs : List Row) → e < w → NodeOnPath M (f e) l rs → NodeOnPath M (node w f) (suc l) (row w e ∷ rs)
 unfolding row-of
@@ -60,9 +71,10 @@ node-under M w e l f rs below x =
     record {
       edges = x .edges;
       way-is = rw (place-under w e l rs, way-under w e f (place-on l rs) below, x .way-is);
-      node-is = rw (place-under w e l rs, at-under w e below f (place-on l rs)) (x .node-is);
+      node-is = at-row-under w e l f rs below ∙ x .node-is;
       edge-below = x .edge-below;
       path-is = x .path-is;
+      below-is = at-row-under w e (suc l) f rs below ∙ x .below-is;
     }
 
 pub path-node : (M : ℕ) (t : Tree) (l : ℕ) (rs : List Row) → path M t ≡ some rs → l < length rs → NodeOnPath M t l rs
@@ -178,14 +190,21 @@ module _ (t : Tree) (legal : Legal t) (a : Place) (w : ℕ) (f : ℕ → Tree) (
         row-is = getD-at (way a t) (row w e) (x .1) (row 0 0) (a .level) long;
       }
 
+  -- under the edge that a path takes at the node, the path goes on, and the path's next level is there
+  pub under-edge-taken :
+      (N : ℕ) (qs : List Row) → path N t ≡ some qs → a .level < length qs → sum (take (a .level) qs) ≡ a .offset →
+      (path N (f (row-of (a .level) qs .edge)) ≡ some (drop (suc (a .level)) qs)) × (at (place-on (suc (a .level)) qs) t ≡ f (row-of (a .level) qs .edge))
+  under-edge-taken N qs h long offset =
+      let y = path-node N t (a .level) qs h long in
+      let same-place : place-on (a .level) qs ≡ a = λ i. record { level = a .level; offset = offset i } in
+      let one-node = sym (y .node-is) ∙ ap (λ b. at b t) same-place ∙ here in
+      let under-edge : y .edges (row-of (a .level) qs .edge) ≡ f (row-of (a .level) qs .edge) = cc in
+      (ap (path N) (sym under-edge) ∙ y .path-is, y .below-is ∙ under-edge)
+
   through-present : (e : ℕ) → LineThrough t a w e → present (f e) ≡ true
   through-present e x =
-      let y = path-node (x .line) t (a .level) (x .rows) (x .path-is) (x .level-below) in
-      let same-place : place-on (a .level) (x .rows) ≡ a = λ i. record { level = a .level; offset = x .offset-is i } in
-      let same-node = sym (y .node-is) ∙ ap (λ b. at b t) same-place ∙ here in
-      let same-edge : row-of (a .level) (x .rows) .edge ≡ e = ap (λ (r : Row). r .edge) (x .row-is) in
-      let under-edge : y .edges (row-of (a .level) (x .rows) .edge) ≡ f e = cc in
-      ap present (sym under-edge) ∙ stands-present (x .line) _ _ _ (path-stands (x .line) _ _ (y .path-is))
+      let under-edge = under-edge-taken (x .line) (x .rows) (x .path-is) (x .level-below) (x .offset-is) .0 in
+      ap (λ (r : Row). present (f (r .edge))) (sym (x .row-is)) ∙ stands-present (x .line) _ _ _ (path-stands (x .line) _ _ under-edge)
 
   -- an edge is present exactly when a line takes it
   pub edge-present : (e : ℕ) → e < w → (present (f e) ≡ true) ↔ LineThrough t a w e

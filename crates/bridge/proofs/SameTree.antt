@@ -42,7 +42,7 @@ no-paths-nothing (node w f) proper absent =
     cc
 
 -- no path ends at a node
-path-goes-on : (M w : ℕ) (f : ℕ → Tree) → path M (node w f) ≡ some [] → ⊥
+pub path-goes-on : (M w : ℕ) (f : ℕ → Tree) → path M (node w f) ≡ some [] → ⊥
 path-goes-on M w f h =
     let x = path-below M w f [] h in
     let y = x .rows-are in

@@ -2,17 +2,18 @@
 -- Assumes nothing.
 use Prim.Native.Nat.{ℕ, _<_, _≤_}
 use native.Mathlib.Omega.{arith}
-use mathlib.Core.Path.{_≡_, refl, _∙_, ap}
-use mathlib.Core.Bool.{Bool, true, false}
+use mathlib.Core.Path.{_≡_, refl, sym, _∙_, ap}
+use mathlib.Core.Bool.{Bool, true, false, not}
 use mathlib.Core.List.{List, [], _∷_}
-use mathlib.Core.Option.{Option, none, Option·getD}
+use mathlib.Core.Option.{Option, none, some, Option·getD}
 use borrow.Author.Tests.{lt-ltb, le-ltb}
 use Rattle.tree.specs.declared.Row.{Row}
 use Rattle.tree.specs.declared.Plan.{Plan}
-use Rattle.tree.specs.Search.{if_then_else_}
-use Rattle.tree.specs.Tree.{nothing, path, path-of}
+use Rattle.tree.specs.Search.{if_then_else_, found}
+use Rattle.tree.specs.Tree.{nothing, path, is-open, path-of}
 use Rattle.tree.specs.Shape.{Legal}
 use Rattle.tree.specs.Record.{path-at, no-rows, legal, grown, treeOf}
+use Rattle.bridge.proofs.ClassOnPaths.{PathsOf}
 use Rattle.bridge.proofs.Grown.{path-held, grown-path, grown-legal}
 
 treeOf-grown : (plan : Plan) → legal (plan .rows) ≡ true → treeOf plan ≡ grown (plan .rows) 64
@@ -42,6 +43,19 @@ treeOf-path-of plan M is-legal below = ap (λ (o : Option (List Row)). Option·g
     held-rows : (ps : List Row) → Option·getD (path-held ps) [] ≡ ps
     held-rows [] = refl
     held-rows (r ∷ rs) = refl
+
+-- a line is open in the tree where its path in the record has rows
+pub treeOf-open : (plan : Plan) (M : ℕ) → legal (plan .rows) ≡ true → M < 64 → is-open M (treeOf plan) ≡ not (no-rows (path-at (plan .rows) M))
+unfolding is-open found
+treeOf-open plan M is-legal below = ap found (treeOf-path plan M is-legal below) ∙ by-rows (no-rows (path-at (plan .rows) M))
+  where
+    by-rows : (b : Bool) → found (if b then none else some (path-at (plan .rows) M)) ≡ not b
+    by-rows true = refl
+    by-rows false = refl
+
+-- the paths of the record are those of its tree
+pub treeOf-paths : (plan : Plan) → legal (plan .rows) ≡ true → PathsOf (treeOf plan) (path-at (plan .rows))
+treeOf-paths plan is-legal M below = sym (treeOf-path-of plan M is-legal below)
 
 pub treeOf-path-beyond : (plan : Plan) (M : ℕ) → 64 ≤ M → path M (treeOf plan) ≡ none
 unfolding treeOf path

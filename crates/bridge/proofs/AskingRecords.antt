@@ -1,0 +1,106 @@
+-- Asking a record: owner, show and turns over the record's paths answer what the rules answer on its tree.
+-- Assumes nothing.
+use Prim.Native.Nat.{ℕ, _+_, _/_, _<_, _≤_}
+use native.Mathlib.Omega.{arith}
+use mathlib.Core.Path.{_≡_, _∙_, ap}
+use mathlib.Core.Bool.{true, false, not}
+use mathlib.Core.List.{List}
+use mathlib.Core.Option.{none, some}
+use Rattle.tree.specs.Search.{found}
+use Rattle.tree.specs.Tree.{Tree, nothing, product, sum, path, is-open, path-of, period-of, start-of}
+use Rattle.tree.specs.Asking.{owner, rows-11, shown, turns}
+use Rattle.tree.specs.Refusals.{line-refusal}
+use Rattle.tree.specs.Calls.{gives, refuses, gives-unless, show-outcome, turns-outcome}
+use Rattle.tree.specs.Record.{path-at, no-rows, legal}
+use Rattle.tree.specs.Paths.{owner-on-paths}
+use Rattle.tree.proofs.Checks.{line-refused-1, line-refused-4, close-allowed}
+use Rattle.bridge.specs.Rows.{tree-of}
+use Rattle.bridge.proofs.TreeOfRecord.{treeOf-illegal, treeOf-legal, treeOf-open, treeOf-paths}
+use Rattle.bridge.proofs.WalkOnPaths.{owner-is}
+
+-- A call that asks and is refused
+
+shown-refused : (L n : ℕ) (t : Tree) → line-refusal L t ≡ some n → show-outcome L t ≡ refuses n
+unfolding show-outcome gives-unless
+shown-refused L n t h = rw h
+
+turns-refused : (L N n : ℕ) (t : Tree) → line-refusal L t ≡ some n → turns-outcome L N t ≡ refuses n
+unfolding turns-outcome gives-unless
+turns-refused L N n t h = rw h
+
+module _ (rows : List ℕ) where
+  pub shown-refused-1 : (L : ℕ) → 63 < L → show-outcome L (tree-of rows) ≡ refuses 1
+  shown-refused-1 L above = shown-refused L 1 (tree-of rows) (line-refused-1 L (tree-of rows) above)
+
+  pub turns-refused-1 : (L N : ℕ) → 63 < L → turns-outcome L N (tree-of rows) ≡ refuses 1
+  turns-refused-1 L N above = turns-refused L N 1 (tree-of rows) (line-refused-1 L (tree-of rows) above)
+
+  -- A record that is no tree
+
+  module _ (illegal : legal rows ≡ false) where
+    empty-on-illegal : tree-of rows ≡ nothing
+    unfolding tree-of
+    empty-on-illegal = treeOf-illegal (record { rows = rows }) illegal
+
+    pub owner-on-illegal : (n : ℕ) → owner n (tree-of rows) ≡ none
+    unfolding owner
+    owner-on-illegal n = ap (owner n) empty-on-illegal
+
+    closed-on-illegal : (L : ℕ) → is-open L (tree-of rows) ≡ false
+    unfolding is-open path found
+    closed-on-illegal L = ap (is-open L) empty-on-illegal
+
+    pub shown-on-illegal : (L : ℕ) → L ≤ 63 → show-outcome L (tree-of rows) ≡ refuses 4
+    shown-on-illegal L number = shown-refused L 4 (tree-of rows) (line-refused-4 L (tree-of rows) number (closed-on-illegal L))
+
+    pub turns-on-illegal : (L N : ℕ) → L ≤ 63 → turns-outcome L N (tree-of rows) ≡ refuses 4
+    turns-on-illegal L N number = turns-refused L N 4 (tree-of rows) (line-refused-4 L (tree-of rows) number (closed-on-illegal L))
+
+  -- A legal record
+
+  module _ (is-legal : legal rows ≡ true) where
+    pub owner-on-record : (n : ℕ) → owner-on-paths (path-at rows) n ≡ owner n (tree-of rows)
+    unfolding tree-of
+    owner-on-record n =
+        owner-is (tree-of rows) (treeOf-legal (record { rows = rows })) (path-at rows) (treeOf-paths (record { rows = rows }) is-legal) n
+
+    path-on-record : (L : ℕ) → L < 64 → path-at rows L ≡ path-of L (tree-of rows)
+    unfolding tree-of
+    path-on-record = treeOf-paths (record { rows = rows }) is-legal
+
+    pub period-on-record : (L : ℕ) → L < 64 → product (path-at rows L) ≡ period-of L (tree-of rows)
+    unfolding period-of
+    period-on-record L below = ap product (path-on-record L below)
+
+    pub start-on-record : (L : ℕ) → L < 64 → sum (path-at rows L) ≡ start-of L (tree-of rows)
+    unfolding start-of
+    start-on-record L below = ap sum (path-on-record L below)
+
+    pub rows-on-record : (L : ℕ) → L < 64 → rows-11 (path-at rows L) ≡ rows-11 (path-of L (tree-of rows))
+    rows-on-record L below = ap rows-11 (path-on-record L below)
+
+    open-on-record : (L : ℕ) → L < 64 → is-open L (tree-of rows) ≡ not (no-rows (path-at rows L))
+    unfolding tree-of
+    open-on-record L = treeOf-open (record { rows = rows }) L is-legal
+
+    module _ (L : ℕ) (number : L ≤ 63) where
+      allowed : no-rows (path-at rows L) ≡ false → line-refusal L (tree-of rows) ≡ none
+      allowed there = close-allowed L (tree-of rows) number (open-on-record L (omega arith) ∙ ap not there)
+
+      refused : no-rows (path-at rows L) ≡ true → line-refusal L (tree-of rows) ≡ some 4
+      refused absent = line-refused-4 L (tree-of rows) number (open-on-record L (omega arith) ∙ ap not absent)
+
+      pub shown-on-record : no-rows (path-at rows L) ≡ false →
+          show-outcome L (tree-of rows) ≡ gives (record { period = product (path-at rows L); start = sum (path-at rows L); rows = rows-11 (path-at rows L) })
+      unfolding show-outcome gives-unless shown period-of start-of
+      shown-on-record there = rw (allowed there, ← path-on-record L (omega arith))
+
+      pub turns-on-record : (N : ℕ) → no-rows (path-at rows L) ≡ false → turns-outcome L N (tree-of rows) ≡ gives (N / product (path-at rows L) + 1)
+      unfolding turns-outcome gives-unless turns period-of
+      turns-on-record N there = rw (allowed there, ← path-on-record L (omega arith))
+
+      pub shown-refused-4 : no-rows (path-at rows L) ≡ true → show-outcome L (tree-of rows) ≡ refuses 4
+      shown-refused-4 absent = shown-refused L 4 (tree-of rows) (refused absent)
+
+      pub turns-refused-4 : (N : ℕ) → no-rows (path-at rows L) ≡ true → turns-outcome L N (tree-of rows) ≡ refuses 4
+      turns-refused-4 N absent = turns-refused L N 4 (tree-of rows) (refused absent)
