@@ -2,6 +2,7 @@
 pub mod AllBelow
 -- Paths, read row by row
 pub mod PathRest
+pub mod PathRows
 pub mod PathLength
 pub mod PathsPart
 pub mod SameNode

@@ -1,0 +1,145 @@
+-- `asking::walk` meets its contract: the walk over the paths, one node at a time. The measure is how many nodes are left.
+-- Assumes nothing.
+use Prim.Native.Nat.{ℕ, _%_, _<_}
+use native.Mathlib.Nat.{mod-lt}
+use native.Mathlib.Omega.{arith}
+use mathlib.Core.Path.{_≡_, sym, _∙_, ap}
+use mathlib.Core.Option.{some}
+use borrow.Author.Needs.{needs}
+use denote.Ref.{now}
+use borrow.Fn.Kinds.{In}
+use borrow.Fn.PlainCycle.{Measures, is, falls, and}
+use Rattle.paths.proofs.PathRows.{within-path}
+use Rattle.paths.proofs.weight.Reads as weight-reads
+use Rattle.tree.specs.Record.{path-at}
+use Rattle.tree.specs.Paths.{line-under}
+use Rattle.asking.specs.Answers.{line-through}
+use Rattle.asking.proofs.Walking.{line-under-within, through-next, weight-above-0, walk-over, walk-idle, walk-to-line, walk-to-node}
+use Rattle.asking.proofs.line_under.Reads as line-under-reads
+use Rattle.asking.proofs.ends_below.Reads as ends-below-reads
+use Rattle.asking.proofs.walk.Reads as walk
+use Rattle.asking.proofs.walk.Kinds as walk-kinds
+use Rattle.asking.proofs.+walk.Lts-walk as walk-lts
+use Rattle.asking.proofs.+walk.{statement}
+use Rattle.asking.proofs.+walk.Tie.{close}
+
+abbrev μ-walk : Measures 1 walk-kinds.ps ℕ
+μ-walk κs a = a .1 .1 .1 .0
+
+-- what `walk` is given at the measure t, and what a call of it asks below t
+abbrev walk-at : ℕ → In 1 walk-kinds.ps
+walk-at t = and 1 walk-kinds.ps (is 1 walk-kinds.ps μ-walk t) walk.Pre
+
+abbrev walk-below : ℕ → In 1 walk-kinds.ps
+walk-below t = and 1 walk-kinds.ps (falls 1 walk-kinds.ps _<_ μ-walk t) walk.Pre
+
+-- what its calls ask and what they teach
+abbrev callees : ℕ → walk-lts.Claims
+callees t = (
+  weight-reads.Asked,
+  weight-reads.Learnt,
+  line-under-reads.Asked,
+  line-under-reads.Learnt,
+  ends-below-reads.Asked,
+  ends-below-reads.Learnt,
+  walk-below t,
+  walk.Post,
+)
+
+walk-returns : (t : ℕ) → walk-lts.Need-returns (callees t) (walk-at t) walk.Post
+walk-returns t c = sym (walk-over _ _ _ _ _ (c .if1 .taken))
+
+walk-weight-requires : (t : ℕ) → walk-lts.Need-weight-requires (callees t) (walk-at t) walk.Post
+walk-weight-requires t c κs = (c .before .pre .1 .0, within-path _ _ (c .before .pre .1 .1))
+
+walk-cast-w : (t : ℕ) → walk-lts.Need-cast-w (callees t) (walk-at t) walk.Post
+walk-cast-w t c = search needs
+
+walk-rem-edge : (t : ℕ) → walk-lts.Need-rem-edge (callees t) (walk-at t) walk.Post
+walk-rem-edge t c =
+    let start = c .before .before in
+    weight-above-0 _ _ (start .pre .1 .1) (c .weight .ensures)
+
+walk-cast-edge : (t : ℕ) → walk-lts.Need-cast-edge (callees t) (walk-at t) walk.Post
+walk-cast-edge t c =
+    let start = c .before .before in
+    let less = mod-lt (start .args .round) (weight-above-0 _ _ (start .pre .1 .1) (c .weight .ensures)) in
+    omega arith
+
+walk-line-under-requires : (t : ℕ) → walk-lts.Need-line-under-requires (callees t) (walk-at t) walk.Post
+walk-line-under-requires t c κs = (c .before .before .pre .1 .0, within-path _ _ (c .before .before .pre .1 .1))
+
+walk-enum-known-under : (t : ℕ) → walk-lts.Need-enum-known-under (callees t) (walk-at t) walk.Post
+walk-enum-known-under t c = search needs
+
+walk-enum-told : (t : ℕ) → walk-lts.Need-enum-told (callees t) (walk-at t) walk.Post
+walk-enum-told t c = search needs
+
+walk-returns-2 : (t : ℕ) → walk-lts.Need-returns-2 (callees t) (walk-at t) walk.Post
+walk-returns-2 t c =
+    let goes-on = c .before .before .before .before in
+    sym (walk-idle _ _ _ _ _ (goes-on .if1 .left) (goes-on .before .pre .1 .1) (c .before .before .before .weight .ensures) (sym (c .before .before .line-under .ensures) ∙ ap line-through (c .enum-told .given .1)))
+
+-- the line found under the edge that the round selects
+selected-line : (t : ℕ) (c : walk-lts.After-under (callees t) (walk-at t) walk.Post) →
+    let start = c .before .before .before .before .before in
+    line-under (path-at (now (start .args .rows))) (path-at (now (start .args .rows)) (start .args .line)) (start .args .level) (start .args .round % c .before .before .before .weight .result) ≡ some (c .under .given .0 .0)
+selected-line t c = sym (c .before .before .line-under .ensures) ∙ ap line-through (c .under .given .1)
+
+walk-ends-below-requires : (t : ℕ) → walk-lts.Need-ends-below-requires (callees t) (walk-at t) walk.Post
+walk-ends-below-requires t c κs = line-under-within _ _ _ _ _ (selected-line t (c .before))
+
+walk-returns-3 : (t : ℕ) → walk-lts.Need-returns-3 (callees t) (walk-at t) walk.Post
+walk-returns-3 t c =
+    let told = c .before .before .before in
+    let goes-on = told .before .before .before .before in
+    sym (walk-to-line _ _ _ _ _ (goes-on .if1 .left) (goes-on .before .pre .1 .1) (told .before .before .before .weight .ensures) _ (selected-line t told) (sym (c .before .ends-below .ensures) ∙ c .if2 .taken))
+
+walk-add-walk : (t : ℕ) → walk-lts.Need-add-walk (callees t) (walk-at t) walk.Post
+walk-add-walk t c =
+    let start = c .before .before .before .before .before .before .before .before in
+    omega (arith, within-path _ _ (start .pre .1 .1))
+
+walk-sub-walk : (t : ℕ) → walk-lts.Need-sub-walk (callees t) (walk-at t) walk.Post
+walk-sub-walk t c =
+    let left = c .before .before .before .before .before .before .before .if1 .left in
+    omega (arith, left)
+
+walk-div-walk : (t : ℕ) → walk-lts.Need-div-walk (callees t) (walk-at t) walk.Post
+walk-div-walk t c =
+    let after-weight = c .before .before .before .before .before .before in
+    weight-above-0 _ _ (after-weight .before .before .pre .1 .1) (after-weight .weight .ensures)
+
+walk-walk-requires : (t : ℕ) → walk-lts.Need-walk-requires (callees t) (walk-at t) walk.Post
+walk-walk-requires t c κs =
+    let told = c .before .before .before in
+    let goes-on = told .before .before .before .before in
+    let start = goes-on .before in
+    let measured = start .pre .0 in
+    let next = selected-line t told in
+    (omega (arith, goes-on .if1 .left), (line-under-within _ _ _ _ _ next .0, through-next _ _ _ _ _ next (sym (c .before .ends-below .ensures) ∙ c .if2 .left)))
+
+walk-returns-4 : (t : ℕ) → walk-lts.Need-returns-4 (callees t) (walk-at t) walk.Post
+walk-returns-4 t c =
+    let told = c .before .before .before .before in
+    let goes-on = told .before .before .before .before in
+    c .walk .ensures ∙ sym (walk-to-node _ _ _ _ _ (goes-on .if1 .left) (goes-on .before .pre .1 .1) (told .before .before .before .weight .ensures) _ (selected-line t told) (sym (c .before .before .ends-below .ensures) ∙ c .before .if2 .left))
+
+pub +walk-spec : {M : Type 1} → statement M
++walk-spec = close μ-walk (λ t. walk-lts.spec (callees t) (walk-at t) walk.Post
+    (walk-returns t)
+    (walk-weight-requires t)
+    (walk-cast-w t)
+    (walk-rem-edge t)
+    (walk-cast-edge t)
+    (walk-line-under-requires t)
+    (walk-enum-known-under t)
+    (walk-enum-told t)
+    (walk-returns-2 t)
+    (walk-ends-below-requires t)
+    (walk-returns-3 t)
+    (walk-add-walk t)
+    (walk-sub-walk t)
+    (walk-div-walk t)
+    (walk-walk-requires t)
+    (walk-returns-4 t))
