@@ -1,0 +1,1 @@
+// Demand 3 over the program's own calls.
