@@ -1,0 +1,121 @@
+-- The ways that open and close can go on a plan record: it is a tree, or it is none and counts as the empty plan.
+-- Assumes nothing.
+use Prim.Native.Nat.{ℕ, _<_, _≤_}
+use native.Mathlib.Omega.{arith}
+use mathlib.Core.Path.{_≡_, refl, sym, _∙_, ap, subst}
+use mathlib.Core.Bool.{true, false}
+use mathlib.Core.List.{List}
+use mathlib.Core.Option.{Option, none, some}
+use lib.ListN.{replicate}
+use Rattle.tree.specs.declared.Plan.{Plan}
+use Rattle.tree.specs.Search.{found}
+use Rattle.tree.specs.Tree.{Tree, nothing, path, is-open, path-of}
+use Rattle.tree.specs.Shape.{Legal}
+use Rattle.tree.specs.Asking.{rows-11}
+use Rattle.tree.specs.Calls.{Call, open-line, close-line, Answer, booked, done, refused, refusal, reply, carried-out, answer-unless, answer}
+use Rattle.tree.specs.Record.{legal, treeOf, numbers, numbers-below, recordOf}
+use Rattle.tree.proofs.Checks.{line-refused-1, line-refused-4}
+use Rattle.bridge.specs.Rows.{tree-of, rows-unless, rows-after, CarriedOut}
+use Rattle.bridge.proofs.TreeOfRecord.{treeOf-illegal}
+use Rattle.bridge.proofs.RecordRoundTrip.{record-legal, record-has-tree}
+use Rattle.tree.specs.declared.Start.{Start}
+use Rattle.lines.specs.declared.OpenAnswer.{OpenAnswer}
+use Rattle.lines.specs.declared.OpenAnswer.the-variants.{Booked, Refused}
+use Rattle.lines.specs.Answers.{open-answer}
+use Rattle.plan.specs.Meets.{empty-plan, plan-unless, plan-after, Meets}
+
+-- A record that is a tree
+
+pub carried-meets : (c : Call) (plan : Plan) (rows : List ℕ) (a : Answer) → CarriedOut c (plan .rows) rows a → Meets c plan a (record { rows = rows })
+unfolding tree-of rows-after plan-after rows-unless plan-unless
+carried-meets c plan rows a h =
+    record { answer-is = h .answer-is; plan-is = (λ i. record { rows = (h .rows-are) i }) ∙ by-refusal (refusal c (treeOf plan)) }
+  where
+    by-refusal : (o : Option ℕ) → _≡_ {A = Plan} (record { rows = rows-unless o (plan .rows) (recordOf (carried-out c (treeOf plan)) .rows) }) (plan-unless o plan (recordOf (carried-out c (treeOf plan))))
+    by-refusal (some n) = refl
+    by-refusal none = refl
+
+-- The empty plan
+
+pub empty-rows : (rows : List ℕ) → rows ≡ replicate 1408 0 → _≡_ {A = Plan} (record { rows = rows }) empty-plan
+unfolding empty-plan recordOf numbers-below numbers rows-11 path-of path
+empty-rows rows h = λ i. record { rows = h i }
+
+pub empty-legal : legal (empty-plan .rows) ≡ true
+unfolding empty-plan Legal
+empty-legal = record-legal nothing tt
+
+pub empty-tree : treeOf empty-plan ≡ nothing
+unfolding empty-plan Legal
+empty-tree = record-has-tree nothing tt
+
+-- A record that is none
+
+reply-not-refused : (c : Call) (t : Tree) (n : ℕ) → reply c t ≡ refused n → ⊥
+unfolding reply
+reply-not-refused (open-line L p) t n h = let z : _≡_ {A = ℕ} 0 1 = cc in omega arith
+reply-not-refused (close-line L) t n h = let z : _≡_ {A = ℕ} 0 1 = cc in omega arith
+
+refused-not-booked : (n s : ℕ) → _≡_ {A = Answer} (refused n) (booked s) → ⊥
+refused-not-booked n s h = let z : _≡_ {A = ℕ} 0 1 = cc in omega arith
+
+module _ (plan : Plan) (not-legal : legal (plan .rows) ≡ false) where
+  -- both have the empty tree
+  same-tree : treeOf empty-plan ≡ treeOf plan
+  same-tree = empty-tree ∙ sym (treeOf-illegal plan not-legal)
+
+  pub booked-from-empty : (c : Call) (s : ℕ) (after : Plan) → Meets c empty-plan (booked s) after → Meets c plan (booked s) after
+  unfolding answer answer-unless plan-after plan-unless
+  booked-from-empty c s after h =
+      record {
+        answer-is = told;
+        plan-is =
+            h .plan-is ∙ ap (λ (t : Tree). plan-unless (refusal c t) empty-plan (recordOf (carried-out c t))) same-tree
+            ∙ by-refusal (refusal c (treeOf plan)) told;
+      }
+    where
+      told : booked s ≡ answer c (treeOf plan)
+      told = h .answer-is ∙ ap (answer c) same-tree
+
+      by-refusal : (o : Option ℕ) → booked s ≡ answer-unless o (reply c (treeOf plan)) →
+          plan-unless o empty-plan (recordOf (carried-out c (treeOf plan))) ≡ plan-unless o plan (recordOf (carried-out c (treeOf plan)))
+      by-refusal (some n) e = absurd (refused-not-booked n s (sym e))
+      by-refusal none e = refl
+
+  pub refused-from-empty : (c : Call) (n : ℕ) (after : Plan) → Meets c empty-plan (refused n) after → Meets c plan (refused n) plan
+  unfolding answer answer-unless plan-after plan-unless
+  refused-from-empty c n after h = record { answer-is = told; plan-is = by-refusal (refusal c (treeOf plan)) told }
+    where
+      told : refused n ≡ answer c (treeOf plan)
+      told = h .answer-is ∙ ap (answer c) same-tree
+
+      by-refusal : (o : Option ℕ) → refused n ≡ answer-unless o (reply c (treeOf plan)) → plan ≡ plan-unless o plan (recordOf (carried-out c (treeOf plan)))
+      by-refusal (some m) e = refl
+      by-refusal none e = absurd (reply-not-refused c (treeOf plan) n (sym e))
+
+  refused-as-found : (c : Call) (n : ℕ) → refusal c (treeOf plan) ≡ some n → Meets c plan (refused n) plan
+  unfolding answer answer-unless plan-after plan-unless
+  refused-as-found c n h = record { answer-is = rw h; plan-is = rw h }
+
+  pub close-none-above : (L : ℕ) → 63 < L → Meets (close-line L) plan (refused 1) plan
+  unfolding refusal
+  close-none-above L above = refused-as-found (close-line L) 1 (line-refused-1 L (treeOf plan) above)
+
+  pub close-none : (L : ℕ) → L ≤ 63 → Meets (close-line L) plan (refused 4) plan
+  unfolding refusal is-open path found
+  close-none L number =
+      refused-as-found (close-line L) 4 (line-refused-4 L (treeOf plan) number (ap (is-open L) (treeOf-illegal plan not-legal)))
+
+  -- an open that was made in the empty plan instead
+  module _ (L p : ℕ) (e after : Plan) (a : OpenAnswer) (empty : e ≡ empty-plan) (h : Meets (open-line L p) e (open-answer a) after) where
+    pub open-was-booked : (s : Start) → a ≡ Booked s → Meets (open-line L p) plan (open-answer a) after
+    unfolding open-answer
+    open-was-booked s told =
+        let made = rw (empty, told) at h in
+        rw told (booked-from-empty (open-line L p) (s .0) after made)
+
+    pub open-was-refused : (n : ℕ) → a ≡ Refused n → Meets (open-line L p) plan (open-answer a) plan
+    unfolding open-answer
+    open-was-refused n told =
+        let made = rw (empty, told) at h in
+        rw told (refused-from-empty (open-line L p) n after made)
