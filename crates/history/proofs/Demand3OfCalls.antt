@@ -1,0 +1,89 @@
+-- Demand 3 of the program's own calls (specs/Ran.antt): a list that was run has the answers and the tree of the rules, so the claim holds of it.
+-- Assumes nothing.
+use Prim.Native.Nat.{ℕ}
+use mathlib.Core.Path.{_≡_, refl, sym, _∙_, ap, subst}
+use mathlib.Core.List.{List, [], _∷_}
+use mathlib.Core.Option.{Option, none, some}
+use Rattle.tree.specs.declared.Plan.{Plan}
+use Rattle.tree.specs.Tree.{Tree, nothing}
+use Rattle.tree.specs.Shape.{Legal}
+use Rattle.tree.specs.Calls.{Call, open-line, close-line, Answer, refusal, reply, carried-out, answer-unless, tree-unless, answer, after}
+use Rattle.tree.specs.Lists.{Entry, calls-of, reference-from, reference, answered-from}
+use Rattle.tree.specs.Demand3.{Demand3}
+use Rattle.tree.specs.Record.{treeOf, recordOf}
+use Rattle.tree.proofs.Opening.{opened-legal}
+use Rattle.tree.proofs.Closing.{closed-legal}
+use Rattle.tree.proofs.Checks.{open-may}
+use Rattle.tree.proofs.Demand3.{demand-3}
+use Rattle.bridge.proofs.TreeOfRecord.{treeOf-legal}
+use Rattle.bridge.proofs.RecordRoundTrip.{record-has-tree}
+use Rattle.plan.specs.Meets.{empty-plan, plan-unless, plan-after, Meets}
+use Rattle.history.specs.Ran.{handed-on, Ran, Demand3OfCalls}
+
+-- One call
+
+-- a call that is not refused leaves a legal tree
+carried-out-legal : (c : Call) (t : Tree) → Legal t → refusal c t ≡ none → Legal (carried-out c t)
+unfolding refusal carried-out
+carried-out-legal (open-line L p) t legal none-refuses = opened-legal L p t (open-may L p t legal none-refuses)
+carried-out-legal (close-line L) t legal none-refuses = closed-legal L t legal
+
+-- the plan after a call has the tree that the rules leave
+plan-after-tree : (c : Call) (plan : Plan) → treeOf (plan-after c plan) ≡ after c (treeOf plan)
+unfolding plan-after plan-unless after tree-unless
+plan-after-tree c plan = by-refusal (refusal c (treeOf plan)) refl
+  where
+    by-refusal : (o : Option ℕ) → refusal c (treeOf plan) ≡ o →
+        treeOf (plan-unless o plan (recordOf (carried-out c (treeOf plan)))) ≡ tree-unless o (treeOf plan) (carried-out c (treeOf plan))
+    by-refusal none e = record-has-tree (carried-out c (treeOf plan)) (carried-out-legal c (treeOf plan) (treeOf-legal plan) e)
+    by-refusal (some n) e = refl
+
+-- the plan that a call returns is the one to hand on: after a refusal it is the one given
+pub returned-is-handed-on : (c : Call) (plan : Plan) (a : Answer) (returned : Plan) → Meets c plan a returned → handed-on a plan returned ≡ returned
+unfolding plan-after plan-unless answer answer-unless reply handed-on
+returned-is-handed-on c plan a returned meets =
+    rw (meets .answer-is, meets .plan-is) (by-refusal c (refusal c (treeOf plan)))
+  where
+    by-refusal : (k : Call) (o : Option ℕ) →
+        handed-on (answer-unless o (reply k (treeOf plan))) plan (plan-unless o plan (recordOf (carried-out k (treeOf plan))))
+        ≡ plan-unless o plan (recordOf (carried-out k (treeOf plan)))
+    by-refusal k (some n) = refl
+    by-refusal (open-line L p) none = refl
+    by-refusal (close-line L) none = refl
+
+empty-plan-tree : treeOf empty-plan ≡ nothing
+unfolding empty-plan Legal
+empty-plan-tree = record-has-tree nothing tt
+
+-- Along a list
+
+-- what the rules say of the calls of `entries`, from the tree t
+record ByTheRules (t : Tree) (entries : List Entry) (last : Tree) : Type 0 where
+  pub answers : entries ≡ answered-from t (calls-of entries)
+  pub tree : last ≡ reference-from t (calls-of entries)
+
+ran-from : (entries : List Entry) (first last : Plan) → Ran first entries last → ByTheRules (treeOf first) entries (treeOf last)
+unfolding Ran calls-of answered-from reference-from
+ran-from [] first last ran = record { answers = refl; tree = ap treeOf ran }
+ran-from (x ∷ xs) first last ran =
+    let meets = ran .1 in
+    let handed = returned-is-handed-on (x .call) first (x .answer) (ran .0) meets in
+    let next : treeOf (handed-on (x .answer) first (ran .0)) ≡ after (x .call) (treeOf first) = ap treeOf (handed ∙ meets .plan-is) ∙ plan-after-tree (x .call) first in
+    let later = subst (λ (t : Tree). ByTheRules t xs (treeOf last)) next (ran-from xs (handed-on (x .answer) first (ran .0)) last (ran .2)) in
+    record { answers = λ i. record { call = x .call; answer = meets .answer-is i } ∷ later .answers i; tree = later .tree }
+
+-- Demand 3
+
+-- every list that was run from the empty plan has the answers and the tree of the rules
+pub ran-by-the-rules : (entries : List Entry) (plan : Plan) → Ran empty-plan entries plan →
+    (entries ≡ answered-from nothing (calls-of entries)) × (treeOf plan ≡ reference (calls-of entries))
+unfolding reference
+ran-by-the-rules entries plan ran =
+    let rules = subst (λ (t : Tree). ByTheRules t entries (treeOf plan)) empty-plan-tree (ran-from entries empty-plan plan ran) in
+    (rules .answers, rules .tree)
+
+pub demand-3-of-calls : Demand3OfCalls
+unfolding Demand3OfCalls
+demand-3-of-calls entries plan ran =
+    let rules = ran-by-the-rules entries plan ran in
+    subst (λ (xs : List Entry). Demand3 xs (treeOf plan)) (sym (rules .0)) (rw (rules .1) (demand-3 (calls-of entries)))

@@ -1,0 +1,2 @@
+pub mod Demand3OfCalls
+pub mod Replaying

@@ -1,0 +1,152 @@
+-- Running a list of numbers call by call (specs/Replay.antt): no call, one more, and a period too large for a u16.
+-- Assumes nothing.
+use Prim.Native.Nat.{ℕ, zero, suc, _+_, _*_, _/_, _<_, _≤_, min}
+use native.Mathlib.Nat.{min-le-left, min-le-right}
+use native.Mathlib.Numerals.{add-one}
+use native.Mathlib.Omega.{arith}
+use native.Mathlib.Decide.{decLt}
+use mathlib.Core.Path.{_≡_, refl, sym, _∙_, ap, subst}
+use mathlib.Core.Bool.{Bool, true, false}
+use mathlib.Core.List.{List, [], _∷_, _++_, append-assoc}
+use mathlib.Core.Option.{some}
+use lib.Dec.{ltb}
+use lib.ListN.{length, drop, getD, set, length-append, length-set}
+use lib.Seq.{drop-cons, set-at}
+use borrow.Author.Tests.{ltb-true}
+use Rattle.tree.specs.declared.Plan.{Plan}
+use Rattle.tree.specs.Search.{if_then_else_}
+use Rattle.tree.specs.Calls.{Call, open-line, Answer, refusal, answer-unless, answer}
+use Rattle.tree.specs.Lists.{Entry, calls-of}
+use Rattle.tree.specs.Record.{treeOf}
+use Rattle.tree.proofs.Checks.{open-refused-1, open-refused-2, above-out-of-range}
+use Rattle.plan.specs.Meets.{empty-plan, plan-unless, plan-after, Meets}
+use Rattle.history.specs.Ran.{handed-on, Ran, Demand3OfCalls}
+use Rattle.history.specs.Replay.{call-at, first-calls, answer-number, answer-numbers, Turned, RanFirst, Replays}
+use Rattle.history.proofs.Demand3OfCalls.{returned-is-handed-on, demand-3-of-calls}
+
+-- One call more
+
+module _ (x : Entry) where
+  ran-more : (xs : List Entry) (first last returned : Plan) → Ran first xs last → Meets (x .call) last (x .answer) returned → Ran first (xs ++ (x ∷ [])) returned
+  unfolding Ran
+  ran-more [] first last returned ran meets =
+      let here = subst (λ (plan : Plan). Meets (x .call) plan (x .answer) returned) ran meets in
+      (returned, here, sym (returned-is-handed-on (x .call) first (x .answer) returned here))
+  ran-more (y ∷ ys) first last returned ran meets =
+      (ran .0, ran .1, ran-more ys (handed-on (y .answer) first (ran .0)) last returned (ran .2) meets)
+
+  calls-of-more : (xs : List Entry) → calls-of (xs ++ (x ∷ [])) ≡ calls-of xs ++ (x .call ∷ [])
+  unfolding calls-of
+  calls-of-more [] = refl
+  calls-of-more (y ∷ ys) = ap (_∷_ (y .call)) (calls-of-more ys)
+
+  answer-numbers-more : (xs : List Entry) → answer-numbers (xs ++ (x ∷ [])) ≡ answer-numbers xs ++ (answer-number (x .answer) ∷ [])
+  unfolding answer-numbers
+  answer-numbers-more [] = refl
+  answer-numbers-more (y ∷ ys) = ap (_∷_ (answer-number (y .answer))) (answer-numbers-more ys)
+
+-- as many answers as calls
+one-answer-a-call : (xs : List Entry) → length (answer-numbers xs) ≡ length (calls-of xs)
+unfolding answer-numbers calls-of
+one-answer-a-call [] = refl
+one-answer-a-call (x ∷ xs) = ap suc (one-answer-a-call xs)
+
+first-calls-length : (numbers : List ℕ) (n : ℕ) → length (first-calls numbers n) ≡ n
+unfolding first-calls
+first-calls-length numbers zero = refl
+first-calls-length numbers (suc n) =
+    length-append (first-calls numbers n) (call-at numbers n ∷ []) ∙ ap (λ (k : ℕ). k + 1) (first-calls-length numbers n) ∙ add-one n
+
+module _ (numbers before : List ℕ) where
+  pub no-call-run : RanFirst numbers before before 0 empty-plan
+  unfolding Ran calls-of first-calls answer-numbers
+  no-call-run = record { entries = []; calls-are = refl; answers-are = refl; ran = refl }
+
+  pub one-more-run : (after : List ℕ) (i : ℕ) (plan : Plan) (number : ℕ) (next : Plan) →
+      RanFirst numbers before after i plan → i < length before → Turned (call-at numbers i) plan number next →
+      RanFirst numbers before (set after i number) (suc i) next
+  unfolding first-calls
+  one-more-run after i plan number next so-far below turned =
+      let xs = so-far .entries in
+      let x : Entry = record { call = call-at numbers i; answer = turned .answer } in
+      let at-seam = one-answer-a-call xs ∙ ap length (so-far .calls-are) ∙ first-calls-length numbers i in
+      record {
+        entries = xs ++ (x ∷ []);
+        calls-are = calls-of-more x xs ∙ ap (λ (cs : List Call). cs ++ (call-at numbers i ∷ [])) (so-far .calls-are);
+        answers-are =
+            rw (so-far .answers-are, drop-cons before i 0 below, turned .number-is)
+            (set-at (answer-numbers xs) (getD before i 0) (drop (suc i) before) (answer-number (turned .answer)) i at-seam
+            ∙ sym (append-assoc (answer-numbers xs) (answer-number (turned .answer) ∷ []) (drop (suc i) before))
+            ∙ ap (λ (ns : List ℕ). ns ++ drop (suc i) before) (sym (answer-numbers-more x xs)));
+        ran = ran-more x xs empty-plan plan next (so-far .ran) (turned .meets);
+      }
+
+-- What the loop of `replay` keeps: i calls are run.
+pub record Running (numbers before : List ℕ) (count : ℕ) (after : List ℕ) (plan : Plan) (i : ℕ) : Type 0 where
+  pub count-is : count ≡ min (length numbers / 3) (length before)
+  pub whole : 3 * count ≤ length numbers
+  pub room : count ≤ length before
+  pub at-most : i ≤ count
+  pub same-length : length after ≡ length before
+  pub first : RanFirst numbers before after i plan
+
+module _ (numbers before : List ℕ) (count : ℕ) where
+  pub running-at-first : (plan : Plan) → count ≡ min (length numbers / 3) (length before) → plan ≡ empty-plan → Running numbers before count before plan 0
+  running-at-first plan count-is empty =
+      let at-most-numbers = min-le-left (length numbers / 3) (length before) in
+      let at-most-room = min-le-right (length numbers / 3) (length before) in
+      record {
+        count-is = count-is;
+        whole = omega arith;
+        room = omega arith;
+        at-most = omega arith;
+        same-length = refl;
+        first = rw empty (no-call-run numbers before);
+      }
+
+  module _ (after : List ℕ) (plan : Plan) (i : ℕ) (so-far : Running numbers before count after plan i) where
+    pub running-more : (number : ℕ) (next : Plan) → i < count → Turned (call-at numbers i) plan number next → Running numbers before count (set after i number) next (i + 1)
+    running-more number next below turned =
+        record {
+          count-is = so-far .count-is;
+          whole = so-far .whole;
+          room = so-far .room;
+          at-most = omega arith;
+          same-length = length-set after i number ∙ so-far .same-length;
+          first = rw (add-one i) (one-more-run numbers before after i plan number next (so-far .first) (omega arith) turned);
+        }
+
+    pub all-replayed : count ≤ i → Replays numbers before after count plan
+    unfolding Demand3OfCalls
+    all-replayed all =
+        let same : i ≡ count = omega arith in
+        let first = subst (λ (n : ℕ). RanFirst numbers before after n plan) same (so-far .first) in
+        record { count-is = so-far .count-is; first = first; demand-3 = demand-3-of-calls (first .entries) plan (first .ran) }
+
+-- A period above 4,095
+
+-- what a call answers and leaves goes by its refusal, where it is refused
+refused-alike : (c d : Call) (n : ℕ) (plan : Plan) (a : Answer) (after : Plan) → refusal c (treeOf plan) ≡ some n → refusal d (treeOf plan) ≡ some n → Meets c plan a after → Meets d plan a after
+unfolding answer answer-unless plan-after plan-unless
+refused-alike c d n plan a after at-c at-d meets =
+    record { answer-is = rw at-d (rw at-c at (meets .answer-is)); plan-is = rw at-d (rw at-c at (meets .plan-is)) }
+
+-- 4,096 stands for every period above 4,095
+pub period-stands-for : (L p : ℕ) (plan : Plan) (a : Answer) (after : Plan) →
+    Meets (open-line L (if ltb 4095 p then 4096 else p)) plan a after → Meets (open-line L p) plan a after
+unfolding refusal
+period-stands-for L p plan a after = by-test (ltb 4095 p) refl
+  where
+    by-test : (b : Bool) → ltb 4095 p ≡ b → Meets (open-line L (if b then 4096 else p)) plan a after → Meets (open-line L p) plan a after
+    by-test false e meets = meets
+    by-test true e meets =
+        let large = ltb-true 4095 p e in
+        elim (decLt 63 L) [
+          | yes above ↦
+              refused-alike (open-line L 4096) (open-line L p) 1 plan a after
+              (open-refused-1 L 4096 (treeOf plan) above) (open-refused-1 L p (treeOf plan) above) meets
+          | no inside ↦
+              refused-alike (open-line L 4096) (open-line L p) 2 plan a after
+              (open-refused-2 L 4096 (treeOf plan) (omega arith) (above-out-of-range 4096 (omega arith) (omega arith)))
+              (open-refused-2 L p (treeOf plan) (omega arith) (above-out-of-range p (omega arith) large)) meets
+        ]

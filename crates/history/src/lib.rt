@@ -1,0 +1,105 @@
+// Demand 3 over the program's own calls: a list of calls is run on the real open and close, and the whole claim is what the function ensures.
+ghost use mathlib.Core.Path.{_≡_};
+ghost use lib.Dec.{ltb};
+ghost use Rattle.tree.specs.Search.{if_then_else_};
+ghost use Rattle.tree.specs.Calls.{open-line, close-line};
+ghost use Rattle.lines.specs.Answers.{open-answer, close-answer};
+ghost use Rattle.history.specs.Replay.{call-of, answer-number, Turned, Replays};
+use lines::CloseAnswer;
+use lines::OpenAnswer;
+use tree::Period;
+use tree::Plan;
+
+// One call's answer as a number, and the plan that it returned.
+pub struct Turn {
+    pub answer: u64,
+    pub plan: Plan,
+}
+
+// How many calls were run, and the plan that the last of them left.
+pub struct Replayed {
+    pub count: usize,
+    pub plan: Plan,
+}
+
+// A period of any size as open takes it: all above 4,095 are refused alike, so 4,096 stands for them.
+fn period_asked(period: u64) -> Period
+    ensures { λ r. ⌜ r .0 ≡ (if ltb 4095 period then 4096 else period) ⌝ }
+{
+    if 4095 < period {
+        return Period(4096);
+    }
+    Period(period as u16)
+}
+
+fn open_number(answer: OpenAnswer) -> u64
+    ensures { λ r. ⌜ r ≡ answer-number (open-answer answer) ⌝ }
+{
+    match answer {
+        OpenAnswer::Booked(start) => start.0 as u64,
+        OpenAnswer::Refused(n) => 131072 + n as u64,
+    }
+}
+
+fn close_number(answer: CloseAnswer) -> u64
+    ensures { λ r. ⌜ r ≡ answer-number (close-answer answer) ⌝ }
+{
+    match answer {
+        CloseAnswer::Done => 65536,
+        CloseAnswer::Refused(n) => 131072 + n as u64,
+    }
+}
+
+fn run_open(plan: Plan, line: u64, period: u64) -> Turn
+    ensures { λ r. ⌜ Turned (open-line line period) plan (r .answer) (r .plan) ⌝ }
+{
+    let opening = plan::change::open(plan, line, period_asked(period));
+    let answer = opening.answer;
+    let next = opening.plan;
+    Turn {
+        answer: open_number(answer),
+        plan: next,
+    }
+}
+
+fn run_close(plan: Plan, line: u64) -> Turn
+    ensures { λ r. ⌜ Turned (close-line line) plan (r .answer) (r .plan) ⌝ }
+{
+    let closing = plan::change::close(plan, line);
+    let answer = closing.answer;
+    let next = closing.plan;
+    Turn {
+        answer: close_number(answer),
+        plan: next,
+    }
+}
+
+// One call of the list.
+fn run_call(plan: Plan, kind: u64, line: u64, period: u64) -> Turn
+    ensures { λ r. ⌜ Turned (call-of kind line period) plan (r .answer) (r .plan) ⌝ }
+{
+    if kind == 0 {
+        return run_open(plan, line, period);
+    }
+    run_close(plan, line)
+}
+
+// Runs the calls of the lent list from an empty plan, as far as they are whole and the lent buffer has room, and writes one number for each answer.
+pub fn replay(calls: &[u64], answers: &mut [u64]) -> Replayed
+    ensures { λ r. ⌜ Replays (now (calls .entry)) (now (answers .entry)) (now (answers .exit)) (r .count) (r .plan) ⌝ }
+{
+    let mut count = calls.len() / 3;
+    if answers.len() < count {
+        count = answers.len();
+    }
+    let mut plan = plan::change::empty();
+    let mut i = 0;
+    while i < count {
+        let at = 3 * i;
+        let turn = run_call(plan, calls[at], calls[at + 1], calls[at + 2]);
+        answers[i] = turn.answer;
+        plan = turn.plan;
+        i += 1;
+    }
+    Replayed { count, plan }
+}
