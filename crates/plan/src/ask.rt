@@ -1,9 +1,10 @@
 // The calls that ask a plan: owner, show and turns. A record that is no tree is answered as the empty plan.
 ghost use mathlib.Core.Path.{_≡_};
+ghost use Prim.Native.Nat.{_<_};
 ghost use Rattle.tree.specs.Asking.{owner};
 ghost use Rattle.tree.specs.Calls.{turns-outcome};
 ghost use Rattle.tree.specs.Record.{treeOf};
-ghost use Rattle.plan.specs.Ask.{owner-answer, turns-answer, ShownAs, refused-showing};
+ghost use Rattle.plan.specs.Ask.{line-found, owner-answer, turns-answer, ShownAs, refused-showing};
 use asking::Owner;
 use paths::Found;
 use tree::Period;
@@ -50,6 +51,17 @@ pub fn owner(plan: Plan, round: u64) -> OwnerAnswer
     OwnerAnswer::Line(number)
 }
 
+// The lookup of a line in a record that need not be a tree: the empty plan has no line.
+fn find_line(rows: &[u16; 1408], line: usize) -> Found
+    requires { ⌜ line < 64 ⌝ }
+    ensures { λ r. ⌜ r ≡ line-found (now (rows .entry)) line ⌝ }
+{
+    if !paths::legal(rows) {
+        return Found::Nothing;
+    }
+    paths::find(rows, line)
+}
+
 // What a refused show gives.
 fn refused(number: u8) -> Showing
     ensures { λ r. ⌜ r ≡ refused-showing number ⌝ }
@@ -67,11 +79,8 @@ pub fn show(plan: Plan, line: u64) -> Showing
     if 63 < line {
         return refused(1);
     }
-    if !paths::legal(&plan.rows) {
-        return refused(4);
-    }
     let at = line as usize;
-    let found = paths::find(&plan.rows, at);
+    let found = find_line(&plan.rows, at);
     let Found::At(_) = found else {
         return refused(4);
     };
@@ -92,11 +101,8 @@ pub fn turns(plan: Plan, line: u64, rounds: u32) -> TurnsAnswer
     if 63 < line {
         return TurnsAnswer::Refused(1);
     }
-    if !paths::legal(&plan.rows) {
-        return TurnsAnswer::Refused(4);
-    }
     let at = line as usize;
-    let found = paths::find(&plan.rows, at);
+    let found = find_line(&plan.rows, at);
     let Found::At(_) = found else {
         return TurnsAnswer::Refused(4);
     };
