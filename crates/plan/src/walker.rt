@@ -54,3 +54,12 @@ pub fn walk(plan: Plan, place: WalkerPlace) -> Walked
         place: WalkerPlace { next, owned },
     }
 }
+
+// The same on a place that is lent.
+pub fn walk_lent(plan: Plan, place: &mut WalkerPlace) -> WalkAnswer
+    ensures { λ r. ⌜ WalkedOn (now (place .entry)) (treeOf plan) r (now (place .exit)) ⌝ }
+{
+    let walked = walk(plan, *place);
+    *place = walked.place;
+    walked.answer
+}
