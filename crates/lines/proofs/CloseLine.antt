@@ -17,12 +17,12 @@ use Rattle.bridge.specs.Rows.{tree-of, CarriedOut}
 use Rattle.bridge.proofs.CallsOnRecords.{refused-on, open-by-rows, close-on}
 
 -- what the lookup says of the path
-lookup-nothing : (rs : List Row) → lookup rs ≡ Nothing → no-rows rs ≡ true
+pub lookup-nothing : (rs : List Row) → lookup rs ≡ Nothing → no-rows rs ≡ true
 unfolding lookup no-rows
 lookup-nothing [] h = refl
 lookup-nothing (r ∷ rs) h = let z : _≡_ {A = ℕ} 0 1 = cc in absurd (omega arith)
 
-lookup-at : (rs : List Row) (n : ℕ) → lookup rs ≡ At n → no-rows rs ≡ false
+pub lookup-at : (rs : List Row) (n : ℕ) → lookup rs ≡ At n → no-rows rs ≡ false
 unfolding lookup no-rows
 lookup-at [] n h = let z : _≡_ {A = ℕ} 0 1 = cc in absurd (omega arith)
 lookup-at (r ∷ rs) n h = refl
