@@ -5,7 +5,7 @@ use mathlib.Core.Path.{_≡_, refl}
 use mathlib.Core.Bool.{true}
 use mathlib.Core.List.{List}
 use mathlib.Core.Option.{Option, none, some}
-use Rattle.tree.specs.Tree.{Tree}
+use Rattle.tree.specs.Tree.{Tree, nothing}
 use Rattle.tree.specs.Shape.{Legal}
 use Rattle.tree.specs.Calls.{Call, open-line, close-line, Answer, refusal, carried-out, tree-unless, after}
 use Rattle.tree.specs.Record.{legal, recordOf}
@@ -29,6 +29,11 @@ tree-of-legal rows = treeOf-legal (record { rows = rows })
 recorded : (t : Tree) → Legal t → LegalWith (recordOf t .rows) t
 unfolding tree-of
 recorded t is-legal = record { is-legal = record-legal t is-legal; tree-is = record-has-tree t is-legal }
+
+-- the record of the empty plan
+pub empty-recorded : LegalWith (recordOf nothing .rows) nothing
+unfolding Legal
+empty-recorded = recorded nothing tt
 
 pub carried-legal : (c : Call) (before left : List ℕ) (a : Answer) → legal before ≡ true → CarriedOut c before left a → LegalWith left (after c (tree-of before))
 unfolding after tree-unless rows-after rows-unless
