@@ -83,7 +83,8 @@ fn line_legal(rows: &Record, line: usize) -> bool {
         && joins_earlier(rows, line)
 }
 
-fn legal(rows: &Record) -> bool {
+/// The record is a tree.
+pub fn legal(rows: &Record) -> bool {
     (0..LINES).all(|line| line_legal(rows, line))
 }
 
