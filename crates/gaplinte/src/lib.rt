@@ -41,8 +41,7 @@ fn copy_out(plan: Plan, rows: &mut [u16])
     requires { ⌜ length (now rows) ≡ 1408 ⌝ }
     ensures { λ _. ⌜ now (rows .exit) ≡ plan .rows ⌝ }
 {
-    let numbers = plan.rows;
-    copy(&numbers, rows);
+    copy(&plan.rows, rows);
 }
 
 // The number that stands for an open's answer.
