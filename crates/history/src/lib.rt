@@ -55,10 +55,10 @@ fn run_open(plan: Plan, line: u64, period: u64) -> Turn
 {
     let opening = plan::change::open(plan, line, period_asked(period));
     let answer = opening.answer;
-    let next = opening.plan;
+    let booked = opening.plan;
     Turn {
         answer: open_number(answer),
-        plan: next,
+        plan: booked,
     }
 }
 
@@ -67,10 +67,10 @@ fn run_close(plan: Plan, line: u64) -> Turn
 {
     let closing = plan::change::close(plan, line);
     let answer = closing.answer;
-    let next = closing.plan;
+    let closed = closing.plan;
     Turn {
         answer: close_number(answer),
-        plan: next,
+        plan: closed,
     }
 }
 
