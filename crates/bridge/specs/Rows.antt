@@ -2,11 +2,12 @@
 -- Assumes nothing.
 use Prim.Native.Nat.{ℕ}
 use mathlib.Core.Path.{_≡_}
+use mathlib.Core.Bool.{true}
 use mathlib.Core.List.{List}
 use mathlib.Core.Option.{Option, none, some}
 use Rattle.tree.specs.Tree.{Tree}
 use Rattle.tree.specs.Calls.{Call, Answer, refusal, carried-out, answer}
-use Rattle.tree.specs.Record.{treeOf, recordOf}
+use Rattle.tree.specs.Record.{legal, treeOf, recordOf}
 
 -- the tree of the record with these numbers
 unfoldable pub tree-of : List ℕ → Tree
@@ -19,6 +20,11 @@ rows-unless none before after = after
 -- the record's numbers after a call: those of the tree that the rules leave, or as they were where the call is refused
 unfoldable pub rows-after : Call → List ℕ → List ℕ
 rows-after c rows = rows-unless (refusal c (tree-of rows)) rows (recordOf (carried-out c (tree-of rows)) .rows)
+
+-- a legal record with a given tree; by its tree it is determined
+pub record LegalWith (rows : List ℕ) (t : Tree) : Type 0 where
+  pub is-legal : legal rows ≡ true
+  pub tree-is : tree-of rows ≡ t
 
 -- a call was carried out on a record: its answer and what it left are those of the rules
 pub record CarriedOut (c : Call) (before after : List ℕ) (a : Answer) : Type 0 where

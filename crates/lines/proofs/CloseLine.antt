@@ -2,7 +2,7 @@
 -- Assumes nothing.
 use Prim.Native.Nat.{ℕ, _<_, _≤_}
 use native.Mathlib.Omega.{arith}
-use mathlib.Core.Path.{_≡_, refl, sym, _∙_, ap}
+use mathlib.Core.Path.{_≡_, refl, _∙_, ap}
 use mathlib.Core.Bool.{true, false, not}
 use mathlib.Core.List.{List, [], _∷_}
 use lib.ListN.{length}
@@ -11,19 +11,18 @@ use Rattle.tree.specs.Calls.{close-line, refusal, refused, done}
 use Rattle.tree.specs.Record.{path-at, no-rows, legal}
 use Rattle.tree.specs.Paths.{set-line}
 use Rattle.tree.proofs.Checks.{line-refused-1, line-refused-4}
-use Rattle.paths.specs.declared.Found.{Found}
 use Rattle.paths.specs.declared.Found.the-variants.{At, Nothing}
 use Rattle.paths.specs.Answers.{lookup}
 use Rattle.bridge.specs.Rows.{tree-of, CarriedOut}
 use Rattle.bridge.proofs.CallsOnRecords.{refused-on, open-by-rows, close-on}
 
 -- what the lookup says of the path
-lookup-nothing : (rs : List Row) → lookup rs ≡ Nothing → no-rows rs ≡ true
+pub lookup-nothing : (rs : List Row) → lookup rs ≡ Nothing → no-rows rs ≡ true
 unfolding lookup no-rows
 lookup-nothing [] h = refl
 lookup-nothing (r ∷ rs) h = let z : _≡_ {A = ℕ} 0 1 = cc in absurd (omega arith)
 
-lookup-at : (rs : List Row) (n : ℕ) → lookup rs ≡ At n → no-rows rs ≡ false
+pub lookup-at : (rs : List Row) (n : ℕ) → lookup rs ≡ At n → no-rows rs ≡ false
 unfolding lookup no-rows
 lookup-at [] n h = let z : _≡_ {A = ℕ} 0 1 = cc in absurd (omega arith)
 lookup-at (r ∷ rs) n h = refl

@@ -2,11 +2,10 @@
 -- Assumes nothing.
 use Prim.Native.Nat.{ℕ, zero, suc, _+_, _*_, _/_, _<_, _≤_}
 use native.Mathlib.Omega.{arith}
-use native.Mathlib.Nat.{lt-irrefl}
-use mathlib.Core.Path.{_≡_, refl, sym, _∙_, ap, ap₂}
+use mathlib.Core.Path.{_≡_, refl, _∙_, ap, ap₂}
 use mathlib.Core.Bool.{Bool, true, false, not, false≢true}
 use mathlib.Core.List.{List, [], _∷_}
-use mathlib.Core.Option.{none, some}
+use mathlib.Core.Option.{none}
 use lib.Dec.{ltb}
 use lib.ListN.{length, take, length-take}
 use Rattle.tree.specs.declared.Row.{Row}
@@ -14,13 +13,13 @@ use Rattle.tree.specs.Search.{if_then_else_, all-below}
 use Rattle.tree.specs.Tree.{row}
 use Rattle.tree.specs.Refusals.{period-out-of-range}
 use Rattle.tree.specs.Calls.{open-line, refusal, refused, booked}
-use Rattle.tree.specs.Record.{path-at, rest-unused, no-rows, legal}
-use Rattle.tree.specs.Paths.{row-of, same-node, Spot, best-of-lines, set-line, split-path, split-lines, booked-path, booked-at}
+use Rattle.tree.specs.Record.{path-at, no-rows, legal}
+use Rattle.tree.specs.Paths.{row-of, same-node, Spot, best-of-lines, set-line, split-path, booked-path, booked-at}
 use Rattle.tree.proofs.Checks.{range-positive, range-at-most, open-refused-1, open-refused-2, open-refused-3, zero-out-of-range, above-out-of-range}
 use Rattle.tree.proofs.Opening.{MayOpen}
 use Rattle.paths.proofs.AllBelow.{all-below-each, all-below-faulty}
 use Rattle.paths.proofs.LegalLines.{legal-rest-unused}
-use Rattle.booking.specs.Writing.{RowLeft, Splittable, Placeable}
+use Rattle.booking.specs.Writing.{Placeable}
 use Rattle.bridge.specs.Rows.{tree-of, CarriedOut}
 use Rattle.bridge.proofs.SearchOnPaths.{FoundSpot}
 use Rattle.bridge.proofs.FirstRecord.{AllClosed}

@@ -3,12 +3,11 @@
 use Prim.Native.Nat.{ℕ, _<_, _≤_}
 use native.Mathlib.Omega.{arith}
 use native.Mathlib.Nat.{zero-add}
-use mathlib.Core.Path.{_≡_, refl, sym, _∙_, ap}
+use mathlib.Core.Path.{_≡_, sym, _∙_, ap}
 use mathlib.Core.List.{List}
 use lib.ListN.{length}
 use borrow.Author.Tests.{lt-ltb, le-ltb}
 use Rattle.tree.specs.declared.Row.{Row}
-use Rattle.tree.specs.Search.{if_then_else_}
 use Rattle.tree.specs.Record.{row-at, path-at}
 use Rattle.tree.specs.Paths.{row-of, split-lines}
 use Rattle.bridge.proofs.WrittenPaths.{row-of-path-from, path-from-length}

@@ -2,7 +2,7 @@
 -- Assumes nothing.
 use Prim.Native.Nat.{ℕ, _<_, _≤_}
 use native.Mathlib.Omega.{arith}
-use mathlib.Core.Path.{_≡_, refl, sym, _∙_, ap, subst}
+use mathlib.Core.Path.{_≡_, refl, sym, _∙_, ap}
 use mathlib.Core.Bool.{true, false}
 use mathlib.Core.List.{List}
 use mathlib.Core.Option.{Option, none, some}
@@ -12,7 +12,7 @@ use Rattle.tree.specs.Search.{found}
 use Rattle.tree.specs.Tree.{Tree, nothing, path, is-open, path-of}
 use Rattle.tree.specs.Shape.{Legal}
 use Rattle.tree.specs.Asking.{rows-11}
-use Rattle.tree.specs.Calls.{Call, open-line, close-line, Answer, booked, done, refused, refusal, reply, carried-out, answer-unless, answer}
+use Rattle.tree.specs.Calls.{Call, open-line, close-line, Answer, booked, refused, refusal, reply, carried-out, answer-unless, answer}
 use Rattle.tree.specs.Record.{legal, treeOf, numbers, numbers-below, recordOf}
 use Rattle.tree.proofs.Checks.{line-refused-1, line-refused-4}
 use Rattle.bridge.specs.Rows.{tree-of, rows-unless, rows-after, CarriedOut}

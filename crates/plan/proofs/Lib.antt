@@ -1,1 +1,3 @@
 pub mod Changes
+pub mod AskingLaws
+pub mod WalkerLaws

@@ -35,11 +35,11 @@ unfolding open-refusal or-else
 refused-by-5 L p t h = rw (first-refusal-last (earlier-checks L p (is-open L t)) 5 (no-room p t), h)
 
 -- a check that has not refused did not strike
-none-strikes : (b : Bool) (n : ℕ) (o : Option ℕ) → (if b then some n else o) ≡ none → (b ≡ false) × (o ≡ none)
+pub none-strikes : (b : Bool) (n : ℕ) (o : Option ℕ) → (if b then some n else o) ≡ none → (b ≡ false) × (o ≡ none)
 none-strikes true n o h = absurd (Option·some-ne-none n h)
 none-strikes false n o h = (refl, h)
 
-neither : (a b : Bool) → (a || b) ≡ false → (a ≡ false) × (b ≡ false)
+pub neither : (a b : Bool) → (a || b) ≡ false → (a ≡ false) × (b ≡ false)
 neither false b h = (refl, h)
 neither true b h = absurd (true≢false h)
 

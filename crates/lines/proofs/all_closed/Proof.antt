@@ -1,6 +1,6 @@
 -- `lines::all_closed` meets its contract. The invariant: every line passed is closed (`Tested`). The measure is how many of the 64 lines are left.
 -- Assumes nothing.
-use Prim.Native.Nat.{ℕ, _-_}
+use Prim.Native.Nat.{_-_}
 use native.Mathlib.Omega.{arith}
 use mathlib.Core.Path.{sym, _∙_}
 use borrow.Author.Needs.{needs}

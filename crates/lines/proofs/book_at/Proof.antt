@@ -1,10 +1,8 @@
 -- `lines::book_at` meets its contract: what is split and placed is the booking at the spot.
 -- Assumes nothing.
-use Prim.Native.Nat.{ℕ}
 use native.Mathlib.Omega.{arith}
-use mathlib.Core.Path.{refl, sym, _∙_, subst}
+use mathlib.Core.Path.{refl}
 use borrow.Author.Needs.{needs}
-use Rattle.booking.specs.Writing.{Placeable}
 use Rattle.lines.specs.Answers.{open-answer}
 use Rattle.lines.proofs.OpenLine.{open-booked, product-fits, product-not-zero, start-fits, spot-splittable, spot-placeable, placed-is-booked}
 use Rattle.lines.proofs.book_at.Statement.{statement}

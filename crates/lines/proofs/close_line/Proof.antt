@@ -1,6 +1,6 @@
 -- `lines::close_line` meets its contract: one law for each way that a close can go.
 -- Assumes nothing.
-use mathlib.Core.Path.{sym, _∙_, subst}
+use mathlib.Core.Path.{sym, _∙_}
 use borrow.Author.Needs.{needs}
 use Rattle.lines.specs.Answers.{close-answer}
 use Rattle.lines.proofs.CloseLine.{close-above, close-absent, close-found}

@@ -1,7 +1,6 @@
 -- `lines::split_if_smaller` meets its contract, by the test of the divisor against the weight.
 -- Assumes nothing.
 use mathlib.Core.Path.{sym, _∙_}
-use borrow.Author.Needs.{needs}
 use Rattle.lines.proofs.SplitIfSmaller.{level-below-11, smaller-than-weight, split-smaller, split-not-smaller}
 use Rattle.lines.proofs.split_if_smaller.Statement.{statement}
 use Rattle.lines.proofs.split_if_smaller.Tie as tie

@@ -1,0 +1,44 @@
+-- `gaplinte::open_number` meets its contract, case by case.
+-- Assumes nothing.
+use mathlib.Core.Path.{sym, ap}
+use borrow.Author.Needs.{needs}
+use Rattle.lines.specs.declared.OpenAnswer.{OpenAnswer}
+use Rattle.lines.specs.Answers.{open-answer}
+use Rattle.gaplinte.specs.Served.{answer-number}
+use Rattle.gaplinte.proofs.open_number.Statement.{statement}
+use Rattle.gaplinte.proofs.open_number.Tie as tie
+
+enum-known-answer : tie.Need-enum-known-answer
+enum-known-answer c = search needs
+
+cast-result : tie.Need-cast-result
+cast-result c = search needs
+
+enum-known-answer-2 : tie.Need-enum-known-answer-2
+enum-known-answer-2 c = search needs
+
+cast-result-2 : tie.Need-cast-result-2
+cast-result-2 c = search needs
+
+mul-result : tie.Need-mul-result
+mul-result c = search needs
+
+returns : tie.Need-returns
+unfolding answer-number open-answer
+returns c = search needs
+
+returns-2 : tie.Need-returns-2
+unfolding answer-number open-answer
+returns-2 c = ap (λ (a : OpenAnswer). answer-number (open-answer a)) (sym (c .before .answer2 .given .1))
+
+pub open-number-spec : {M : Type 1} → statement M
+open-number-spec =
+    tie.close
+    (tie.spec
+    enum-known-answer
+    cast-result
+    enum-known-answer-2
+    cast-result-2
+    mul-result
+    returns
+    returns-2)

@@ -1,0 +1,6 @@
+-- The laws behind the proofs of the functions
+pub mod ListChecks
+pub mod OneOrder
+pub mod AnswerBytes
+pub mod OrdersInTurn
+pub mod WholeList

@@ -1,0 +1,106 @@
+-- The ways that owner, show and turns can go on a plan record.
+-- Assumes nothing.
+use Prim.Native.Nat.{ℕ, _+_, _/_, _<_, _≤_}
+use native.Mathlib.Omega.{arith}
+use mathlib.Core.Path.{_≡_, refl, sym, ap}
+use mathlib.Core.Bool.{Bool, true, false}
+use mathlib.Core.List.{List, []}
+use mathlib.Core.Logic.{_⊎_, inl, inr, ⊎-elim}
+use mathlib.Core.Option.{none}
+use Rattle.tree.specs.declared.Plan.{Plan}
+use Rattle.tree.specs.declared.Period.{Period}
+use Rattle.tree.specs.declared.Start.{Start}
+use Rattle.tree.specs.Search.{if_then_else_}
+use Rattle.tree.specs.Tree.{Tree, product, sum}
+use Rattle.tree.specs.Asking.{owner, rows-11}
+use Rattle.tree.specs.Calls.{gives, refuses, show-outcome, turns-outcome}
+use Rattle.tree.specs.Record.{path-at, no-rows, legal, treeOf}
+use Rattle.tree.specs.Paths.{owner-on-paths}
+use Rattle.paths.specs.declared.Found.the-variants.{At, Nothing}
+use Rattle.paths.specs.Answers.{lookup}
+use Rattle.paths.proofs.PathRest.{path-rest-start, path-rest-product}
+use Rattle.lines.proofs.CloseLine.{lookup-nothing, lookup-at}
+use Rattle.bridge.specs.Rows.{tree-of}
+use Rattle.bridge.proofs.AskingRecords.{owner-on-illegal, owner-on-record, shown-refused-1, shown-refused-4, shown-on-illegal, shown-on-record, turns-refused-1, turns-refused-4, turns-on-illegal, turns-on-record}
+use Rattle.plan.specs.declared.ask.ShowAnswer.the-variants.{Times, Refused}
+use Rattle.plan.specs.Ask.{line-found, show-answer, rows-beside, ShownAs}
+
+-- The lookup of a line
+
+found-in-tree : (rows : List ℕ) (L n : ℕ) → line-found rows L ≡ At n → (legal rows ≡ true) × (lookup (path-at rows L) ≡ At n)
+unfolding line-found
+found-in-tree rows L n = go (legal rows) refl
+  where
+    go : (b : Bool) → legal rows ≡ b → (if b then lookup (path-at rows L) else Nothing) ≡ At n → (legal rows ≡ true) × (lookup (path-at rows L) ≡ At n)
+    go true is-legal there = (is-legal, there)
+    go false illegal there = let z : _≡_ {A = ℕ} 0 1 = cc in absurd (omega arith)
+
+absent-or-no-tree : (rows : List ℕ) (L : ℕ) → line-found rows L ≡ Nothing → ((legal rows ≡ true) × (lookup (path-at rows L) ≡ Nothing)) ⊎ (legal rows ≡ false)
+unfolding line-found
+absent-or-no-tree rows L = go (legal rows) refl
+  where
+    go : (b : Bool) → legal rows ≡ b → (if b then lookup (path-at rows L) else Nothing) ≡ Nothing → ((legal rows ≡ true) × (lookup (path-at rows L) ≡ Nothing)) ⊎ (legal rows ≡ false)
+    go true is-legal absent = inl (is-legal, absent)
+    go false illegal absent = inr illegal
+
+-- The calls
+
+-- a refused show answers the number, and its rows are 0
+shown-refused : (L n : ℕ) (t : Tree) → show-outcome L t ≡ refuses n → ShownAs L t (Refused n) (rows-11 [])
+unfolding show-answer rows-beside
+shown-refused L n t h = record { answer-is = sym h; rows-are = sym (ap rows-beside h) }
+
+module _ (plan : Plan) where
+  -- a line above 63
+
+  pub shown-above : (L : ℕ) → 63 < L → ShownAs L (treeOf plan) (Refused 1) (rows-11 [])
+  unfolding tree-of
+  shown-above L above = shown-refused L 1 (treeOf plan) (shown-refused-1 (plan .rows) L above)
+
+  pub turns-above : (L N : ℕ) → 63 < L → turns-outcome L N (treeOf plan) ≡ refuses 1
+  unfolding tree-of
+  turns-above = turns-refused-1 (plan .rows)
+
+  -- owner, of a record that is no tree and of one that is
+
+  pub owner-of-no-tree : legal (plan .rows) ≡ false → (n : ℕ) → owner n (treeOf plan) ≡ none
+  unfolding tree-of
+  owner-of-no-tree = owner-on-illegal (plan .rows)
+
+  pub owner-by-paths : legal (plan .rows) ≡ true → (n : ℕ) → owner-on-paths (path-at (plan .rows)) n ≡ owner n (treeOf plan)
+  unfolding tree-of
+  owner-by-paths = owner-on-record (plan .rows)
+
+  module _ (L : ℕ) (number : L ≤ 63) where
+    -- a line that is not open
+
+    pub shown-absent : line-found (plan .rows) L ≡ Nothing → ShownAs L (treeOf plan) (Refused 4) (rows-11 [])
+    unfolding tree-of
+    shown-absent absent = shown-refused L 4 (treeOf plan) (⊎-elim (λ w. shown-refused-4 (plan .rows) (w .0) L number (lookup-nothing (path-at (plan .rows) L) (w .1))) (λ illegal. shown-on-illegal (plan .rows) illegal L number) (absent-or-no-tree (plan .rows) L absent))
+
+    pub turns-absent : (N : ℕ) → line-found (plan .rows) L ≡ Nothing → turns-outcome L N (treeOf plan) ≡ refuses 4
+    unfolding tree-of
+    turns-absent N absent = ⊎-elim (λ w. turns-refused-4 (plan .rows) (w .0) L number N (lookup-nothing (path-at (plan .rows) L) (w .1))) (λ illegal. turns-on-illegal (plan .rows) illegal L N number) (absent-or-no-tree (plan .rows) L absent)
+
+    -- an open line
+
+    module _ (n : ℕ) (there : line-found (plan .rows) L ≡ At n) where
+      pub found-legal : legal (plan .rows) ≡ true
+      found-legal = found-in-tree (plan .rows) L n there .0
+
+      has-rows : no-rows (path-at (plan .rows) L) ≡ false
+      has-rows = lookup-at (path-at (plan .rows) L) n (found-in-tree (plan .rows) L n there .1)
+
+      pub shown-found : (p : Period) (s : Start) → p .0 ≡ product (path-at (plan .rows) L) → s .0 ≡ sum (path-at (plan .rows) L) → ShownAs L (treeOf plan) (Times p s) (rows-11 (path-at (plan .rows) L))
+      unfolding tree-of show-answer rows-beside
+      shown-found p s period-is start-is =
+          let outcome = shown-on-record (plan .rows) found-legal L number has-rows in
+          record { answer-is = rw (period-is, start-is) (sym outcome); rows-are = sym (ap rows-beside outcome) }
+
+      pub turns-found : (N : ℕ) → turns-outcome L N (treeOf plan) ≡ gives (N / product (path-at (plan .rows) L) + 1)
+      unfolding tree-of
+      turns-found N = turns-on-record (plan .rows) found-legal L number N has-rows
+
+-- a period is at least 1
+pub period-positive : (plan : Plan) (L : ℕ) → 1 ≤ product (path-at (plan .rows) L)
+period-positive plan L = rw (path-rest-start (plan .rows) L) at (path-rest-product (plan .rows) L 0)

@@ -1,0 +1,112 @@
+// The calls that ask a plan: owner, show and turns. A record that is no tree is answered as the empty plan.
+ghost use mathlib.Core.Path.{_≡_};
+ghost use Prim.Native.Nat.{_<_};
+ghost use Rattle.tree.specs.Asking.{owner};
+ghost use Rattle.tree.specs.Calls.{turns-outcome};
+ghost use Rattle.tree.specs.Record.{treeOf};
+ghost use Rattle.plan.specs.Ask.{line-found, owner-answer, turns-answer, ShownAs, refused-showing};
+use asking::Owner;
+use paths::Found;
+use tree::Period;
+use tree::Plan;
+use tree::Row;
+use tree::Start;
+
+// The owner of a round: a line by its number, or none.
+pub enum OwnerAnswer {
+    Line(u64),
+    Idle,
+}
+
+// A line's period and start, or the number with which the call is refused.
+pub enum ShowAnswer {
+    Times(Period, Start),
+    Refused(u8),
+}
+
+// What show gives: its answer, and the line's path, all 0 where the call is refused.
+pub struct Showing {
+    pub answer: ShowAnswer,
+    pub rows: [Row; 11],
+}
+
+// Turns in so many rounds, or the number with which the call is refused.
+pub enum TurnsAnswer {
+    Count(u64),
+    Refused(u8),
+}
+
+// The owner of a round. It never refuses.
+pub fn owner(plan: Plan, round: u64) -> OwnerAnswer
+    ensures { λ r. ⌜ owner-answer r ≡ owner round (treeOf plan) ⌝ }
+{
+    if !paths::legal(&plan.rows) {
+        return OwnerAnswer::Idle;
+    }
+    let found = asking::owner_of(&plan.rows, round);
+    let Owner::Line(line) = found else {
+        return OwnerAnswer::Idle;
+    };
+    let number = line as u64;
+    OwnerAnswer::Line(number)
+}
+
+// The lookup of a line in a record that need not be a tree: the empty plan has no line.
+fn find_line(rows: &[u16; 1408], line: usize) -> Found
+    requires { ⌜ line < 64 ⌝ }
+    ensures { λ r. ⌜ r ≡ line-found (now (rows .entry)) line ⌝ }
+{
+    if !paths::legal(rows) {
+        return Found::Nothing;
+    }
+    paths::find(rows, line)
+}
+
+// What a refused show gives.
+fn refused(number: u8) -> Showing
+    ensures { λ r. ⌜ r ≡ refused-showing number ⌝ }
+{
+    Showing {
+        answer: ShowAnswer::Refused(number),
+        rows: [Row { weight: 0, edge: 0 }; 11],
+    }
+}
+
+// Shows a line: its period, its start and its path, or a refusal with 1 or 4.
+pub fn show(plan: Plan, line: u64) -> Showing
+    ensures { λ r. ⌜ ShownAs line (treeOf plan) (r .answer) (r .rows) ⌝ }
+{
+    if 63 < line {
+        return refused(1);
+    }
+    let at = line as usize;
+    let found = find_line(&plan.rows, at);
+    let Found::At(_) = found else {
+        return refused(4);
+    };
+    let times = asking::times_of(&plan.rows, at);
+    let period = times.period;
+    let start = times.start;
+    let rows = asking::rows_of(&plan.rows, at);
+    Showing {
+        answer: ShowAnswer::Times(period, start),
+        rows,
+    }
+}
+
+// Turns of a line in so many rounds, or a refusal with 1 or 4.
+pub fn turns(plan: Plan, line: u64, rounds: u32) -> TurnsAnswer
+    ensures { λ r. ⌜ turns-answer r ≡ turns-outcome line rounds (treeOf plan) ⌝ }
+{
+    if 63 < line {
+        return TurnsAnswer::Refused(1);
+    }
+    let at = line as usize;
+    let found = find_line(&plan.rows, at);
+    let Found::At(_) = found else {
+        return TurnsAnswer::Refused(4);
+    };
+    let times = asking::times_of(&plan.rows, at);
+    let count = asking::turns_of(times.period, rounds);
+    TurnsAnswer::Count(count)
+}
