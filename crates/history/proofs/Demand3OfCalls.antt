@@ -3,7 +3,8 @@
 use Prim.Native.Nat.{ℕ}
 use mathlib.Core.Path.{_≡_, refl, sym, _∙_, ap, subst}
 use mathlib.Core.List.{List, [], _∷_}
-use mathlib.Core.Option.{Option, none, some}
+use mathlib.Core.Logic.{_↔_}
+use mathlib.Core.Option.{Option, none, some, Option·none-ne-some}
 use Rattle.tree.specs.declared.Plan.{Plan}
 use Rattle.tree.specs.Tree.{Tree, nothing}
 use Rattle.tree.specs.Shape.{Legal}
@@ -17,8 +18,11 @@ use Rattle.tree.proofs.Checks.{open-may}
 use Rattle.tree.proofs.Demand3.{demand-3}
 use Rattle.bridge.proofs.TreeOfRecord.{treeOf-legal}
 use Rattle.bridge.proofs.RecordRoundTrip.{record-has-tree}
+use Rattle.plan.specs.declared.ask.OwnerAnswer.{OwnerAnswer}
+use Rattle.plan.specs.declared.ask.OwnerAnswer.the-variants.{Line, Idle}
+use Rattle.plan.specs.Ask.{owner-answer}
 use Rattle.plan.specs.Meets.{empty-plan, plan-unless, plan-after, Meets}
-use Rattle.history.specs.Ran.{handed-on, Ran, Demand3OfCalls}
+use Rattle.history.specs.Ran.{handed-on, Ran, Demand3OfCalls, NamesOwner, OwnerOfCalls}
 
 -- One call
 
@@ -87,3 +91,16 @@ unfolding Demand3OfCalls
 demand-3-of-calls entries plan ran =
     let rules = ran-by-the-rules entries plan ran in
     subst (λ (xs : List Entry). Demand3 xs (treeOf plan)) (sym (rules .0)) (rw (rules .1) (demand-3 (calls-of entries)))
+
+-- an answer of the owner call is a line where document 01's answer is that line
+line-named : (a : OwnerAnswer) (L : ℕ) → (a ≡ Line L) ↔ (owner-answer a ≡ some L)
+unfolding owner-answer
+line-named (Line n) L = (λ e. cc, λ e. cc)
+line-named Idle L = (λ e. ap owner-answer e, λ e. absurd (Option·none-ne-some L e))
+
+pub owner-of-calls : OwnerOfCalls
+unfolding OwnerOfCalls NamesOwner Demand3OfCalls
+owner-of-calls entries plan ran round a asked L =
+    let named = line-named a L in
+    let owned = demand-3-of-calls entries plan ran .ownership round L in
+    (λ e. owned .0 (sym asked ∙ named .0 e), λ fits. named .1 (asked ∙ owned .1 fits))

@@ -16,13 +16,16 @@ use borrow.Author.Tests.{ltb-true}
 use Rattle.tree.specs.declared.Plan.{Plan}
 use Rattle.tree.specs.Search.{if_then_else_}
 use Rattle.tree.specs.Calls.{Call, open-line, Answer, refusal, answer-unless, answer}
+use Rattle.tree.specs.Asking.{owner}
 use Rattle.tree.specs.Lists.{Entry, calls-of}
 use Rattle.tree.specs.Record.{treeOf}
 use Rattle.tree.proofs.Checks.{open-refused-1, open-refused-2, above-out-of-range}
+use Rattle.plan.specs.declared.ask.OwnerAnswer.{OwnerAnswer}
+use Rattle.plan.specs.Ask.{owner-answer}
 use Rattle.plan.specs.Meets.{empty-plan, plan-unless, plan-after, Meets}
-use Rattle.history.specs.Ran.{handed-on, Ran, Demand3OfCalls}
-use Rattle.history.specs.Replay.{call-at, first-calls, answer-number, answer-numbers, Turned, RanFirst, Replays}
-use Rattle.history.proofs.Demand3OfCalls.{returned-is-handed-on, demand-3-of-calls}
+use Rattle.history.specs.Ran.{handed-on, Ran, Demand3OfCalls, OwnerOfCalls}
+use Rattle.history.specs.Replay.{call-at, first-calls, answer-number, answer-numbers, Turned, RanFirst, Replays, ReplaysAndOwns}
+use Rattle.history.proofs.Demand3OfCalls.{returned-is-handed-on, demand-3-of-calls, owner-of-calls}
 
 -- One call more
 
@@ -122,6 +125,19 @@ module _ (numbers before : List ℕ) (count : ℕ) where
         let same : i ≡ count = omega arith in
         let first = subst (λ (n : ℕ). RanFirst numbers before after n plan) same (so-far .first) in
         record { count-is = so-far .count-is; first = first; demand-3 = demand-3-of-calls (first .entries) plan (first .ran) }
+
+-- The owner call on the plan that was left
+
+pub owner-after-replay : (numbers before after : List ℕ) (count : ℕ) (plan : Plan) → Replays numbers before after count plan →
+    (round : ℕ) (a : OwnerAnswer) → owner-answer a ≡ owner round (treeOf plan) → ReplaysAndOwns numbers before after round a
+unfolding OwnerOfCalls
+owner-after-replay numbers before after count plan replays round a asked =
+    record {
+      count = count;
+      plan = plan;
+      replays = replays;
+      names-owner = owner-of-calls (replays .first .entries) plan (replays .first .ran) round a asked;
+    }
 
 -- A period above 4,095
 

@@ -1,13 +1,20 @@
 -- Demand 3 of the program's own calls (document 01, The lists of demand 3): the lists that can be run, and the claim about each.
 -- A call's answer and its plan are those that its contract allows (`Meets` of crate plan); the claim itself is `Demand3` of crate tree.
 -- Assumes nothing.
+use Prim.Native.Nat.{ℕ}
 use mathlib.Core.Path.{_≡_}
+use mathlib.Core.Logic.{_↔_}
 use mathlib.Core.List.{List, [], _∷_}
+use mathlib.Core.Option.{some}
 use Rattle.tree.specs.declared.Plan.{Plan}
 use Rattle.tree.specs.Calls.{Answer, booked, done, refused}
-use Rattle.tree.specs.Lists.{Entry}
+use Rattle.tree.specs.Asking.{owner}
+use Rattle.tree.specs.Lists.{Booking, Entry, ledger-of, RoundFits}
 use Rattle.tree.specs.Demand3.{Demand3}
 use Rattle.tree.specs.Record.{treeOf}
+use Rattle.plan.specs.declared.ask.OwnerAnswer.{OwnerAnswer}
+use Rattle.plan.specs.declared.ask.OwnerAnswer.the-variants.{Line}
+use Rattle.plan.specs.Ask.{owner-answer}
 use Rattle.plan.specs.Meets.{empty-plan, Meets}
 
 -- (The lists of demand 3, 3) The plan for the next call: the one returned or, after a refusal, the one that the refused call was given.
@@ -25,3 +32,13 @@ Ran first (x ∷ xs) last =
 -- (The lists of demand 3, 2, 5) Demand 3: whatever list of opens and closes is run from the empty plan, the whole claim holds of it and of the tree of the plan that it leaves.
 unfoldable pub Demand3OfCalls : Type 0
 Demand3OfCalls = (entries : List Entry) (plan : Plan) → Ran empty-plan entries plan → Demand3 entries (treeOf plan)
+
+-- An answer of the owner call names line L exactly when the ledger has L open and the round fits it.
+unfoldable pub NamesOwner : List Entry → ℕ → OwnerAnswer → Type 0
+NamesOwner entries round a = (L : ℕ) → (a ≡ Line L) ↔ ((b : Booking) × (ledger-of entries L ≡ some b) × RoundFits round b)
+
+-- (The lists of demand 3, 19) The owner call is put to the plan that the list leaves: so it is with each answer that its contract allows.
+unfoldable pub OwnerOfCalls : Type 0
+OwnerOfCalls =
+    (entries : List Entry) (plan : Plan) → Ran empty-plan entries plan →
+    (round : ℕ) (a : OwnerAnswer) → owner-answer a ≡ owner round (treeOf plan) → NamesOwner entries round a

@@ -11,8 +11,9 @@ use Rattle.tree.specs.Calls.{Call, open-line, close-line, Answer, booked, done,
 use Rattle.tree.specs.Lists.{Entry, calls-of}
 use Rattle.tree.specs.Demand3.{Demand3}
 use Rattle.tree.specs.Record.{treeOf}
+use Rattle.plan.specs.declared.ask.OwnerAnswer.{OwnerAnswer}
 use Rattle.plan.specs.Meets.{empty-plan, Meets}
-use Rattle.history.specs.Ran.{Ran}
+use Rattle.history.specs.Ran.{Ran, NamesOwner}
 
 -- Three numbers to a call: kind, line and period, of any size. Kind 0 opens; every other kind closes, and its period is not looked at.
 unfoldable pub call-of : ℕ → ℕ → ℕ → Call
@@ -54,3 +55,10 @@ pub record Replays (numbers before after : List ℕ) (count : ℕ) (plan : Plan)
   pub count-is : count ≡ min (length numbers / 3) (length before)
   pub first : RanFirst numbers before after count plan
   pub demand-3 : Demand3 (first .entries) (treeOf plan)
+
+-- The same, and then the owner call was put to the plan that was left.
+pub record ReplaysAndOwns (numbers before after : List ℕ) (round : ℕ) (a : OwnerAnswer) : Type 0 where
+  pub count : ℕ
+  pub plan : Plan
+  pub replays : Replays numbers before after count plan
+  pub names-owner : NamesOwner (replays .first .entries) round a

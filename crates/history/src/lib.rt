@@ -4,9 +4,10 @@ ghost use lib.Dec.{ltb};
 ghost use Rattle.tree.specs.Search.{if_then_else_};
 ghost use Rattle.tree.specs.Calls.{open-line, close-line};
 ghost use Rattle.lines.specs.Answers.{open-answer, close-answer};
-ghost use Rattle.history.specs.Replay.{call-of, answer-number, Turned, Replays};
+ghost use Rattle.history.specs.Replay.{call-of, answer-number, Turned, Replays, ReplaysAndOwns};
 use lines::CloseAnswer;
 use lines::OpenAnswer;
+use plan::ask::OwnerAnswer;
 use tree::Period;
 use tree::Plan;
 
@@ -55,10 +56,10 @@ fn run_open(plan: Plan, line: u64, period: u64) -> Turn
 {
     let opening = plan::change::open(plan, line, period_asked(period));
     let answer = opening.answer;
-    let next = opening.plan;
+    let booked = opening.plan;
     Turn {
         answer: open_number(answer),
-        plan: next,
+        plan: booked,
     }
 }
 
@@ -67,10 +68,10 @@ fn run_close(plan: Plan, line: u64) -> Turn
 {
     let closing = plan::change::close(plan, line);
     let answer = closing.answer;
-    let next = closing.plan;
+    let closed = closing.plan;
     Turn {
         answer: close_number(answer),
-        plan: next,
+        plan: closed,
     }
 }
 
@@ -102,4 +103,13 @@ pub fn replay(calls: &[u64], answers: &mut [u64]) -> Replayed
         i += 1;
     }
     Replayed { count, plan }
+}
+
+// The owner of a round in the plan that the lent list leaves.
+pub fn replay_owner(calls: &[u64], answers: &mut [u64], round: u64) -> OwnerAnswer
+    ensures { λ r. ⌜ ReplaysAndOwns (now (calls .entry)) (now (answers .entry)) (now (answers .exit)) round r ⌝ }
+{
+    let replayed = replay(calls, answers);
+    let plan = replayed.plan;
+    plan::ask::owner(plan, round)
 }
