@@ -15,6 +15,7 @@ pub mod refusal;
 pub mod script;
 pub mod shapes;
 pub mod tree;
+pub mod walker;
 
 #[cfg(test)]
 mod cases;

@@ -1,5 +1,4 @@
 //! The refusal numbers of document 01, section Who brings a refusal about.
-//! 9 belongs to the walker, which is not part of this program.
 
 /// All that a refused call answers (Refusals, first sentence).
 #[derive(Clone, Copy, Debug, PartialEq, Eq)]
@@ -20,6 +19,8 @@ pub enum Refusal {
     ListLength = 7,
     /// The answers do not fit (Refusals, 8).
     AnswerBuffer = 8,
+    /// The walker cannot move on (Refusals, 9).
+    Place = 9,
 }
 
 impl Refusal {
@@ -43,8 +44,9 @@ mod tests {
             Order,
             ListLength,
             AnswerBuffer,
+            Place,
         ];
         let numbers: Vec<u8> = all.iter().map(|refusal| refusal.number()).collect();
-        assert_eq!(numbers, [1, 2, 3, 4, 5, 6, 7, 8]);
+        assert_eq!(numbers, [1, 2, 3, 4, 5, 6, 7, 8, 9]);
     }
 }

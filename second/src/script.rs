@@ -3,18 +3,32 @@
 //!
 //! A script is a sequence of steps of 17 bytes: a kind, then two numbers of 64 bits, most
 //! significant byte first. Kinds: 0 opens (line, period), 1 closes (line, 0), 2 begins
-//! again with the empty plan (0, 0).
+//! again with the empty plan (0, 0), 3 writes a number into the record (place, number),
+//! 4 asks for an owner (round, 0), 5 shows (line, 0), 6 asks for turns (line, rounds),
+//! 7 walks (next, owned).
 //!
-//! Each step prints one line: `open LINE PERIOD RESULT START`, with `-` for the start of
-//! a refused open; `close LINE RESULT`; `plan`.
+//! Each step prints one line:
+//! `open LINE PERIOD RESULT START`, with `-` for the start of a refused open;
+//! `close LINE RESULT`; `plan`; `write PLACE NUMBER`; `owner ROUND LINE`, or `idle` for
+//! the line; `show LINE 0 PERIOD START` and the 11 rows, each weight and edge, or
+//! `show LINE RESULT`; `turns LINE ROUNDS RESULT TURNS`, with `-` where refused;
+//! `walk NEXT OWNED ANSWER NEXT OWNED`, the answer a line, `idle` or `refused 9`.
+//!
+//! A number that is written is above 4,095, which no weight and no edge is: whatever its
+//! place, the record is then no tree and counts as the empty plan.
 
+use crate::ask::{owner, show, turns, Shown};
 use crate::lists;
 use crate::orders::{read, Order, ORDER_BYTES};
 use crate::random::Random;
 use crate::refusal::Refusal;
 use crate::shapes::Shape;
-use crate::tree::{Plan, Start};
+use crate::tree::{Plan, Start, LAST_PERIOD};
+use crate::walker::{walk, Place};
 use std::io::{self, Write};
+
+/// Numbers in a record: 64 lines of 11 rows of weight and edge.
+const RECORD_NUMBERS: u64 = 1_408;
 
 /// Bytes of one step.
 pub const STEP_BYTES: usize = 17;
@@ -24,6 +38,11 @@ pub enum Step {
     Open(u64, u64),
     Close(u64),
     Begin,
+    Write(u64, u64),
+    Owner(u64),
+    Show(u64),
+    Turns(u64, u32),
+    Walk(Place),
 }
 
 impl Step {
@@ -32,6 +51,11 @@ impl Step {
             Step::Open(line, period) => (0, line, period),
             Step::Close(line) => (1, line, 0),
             Step::Begin => (2, 0, 0),
+            Step::Write(place, number) => (3, place, number),
+            Step::Owner(round) => (4, round, 0),
+            Step::Show(line) => (5, line, 0),
+            Step::Turns(line, rounds) => (6, line, rounds.into()),
+            Step::Walk(Place { next, owned }) => (7, next, owned),
         };
         let mut bytes = [kind; STEP_BYTES];
         bytes[1..9].copy_from_slice(&first.to_be_bytes());
@@ -45,10 +69,19 @@ impl Step {
                 .iter()
                 .fold(0, |number, byte| number << 8 | u64::from(*byte))
         };
+        let (first, second) = (number(1), number(9));
         match bytes[0] {
-            0 => Some(Step::Open(number(1), number(9))),
-            1 => Some(Step::Close(number(1))),
+            0 => Some(Step::Open(first, second)),
+            1 => Some(Step::Close(first)),
             2 => Some(Step::Begin),
+            3 => Some(Step::Write(first, second)),
+            4 => Some(Step::Owner(first)),
+            5 => Some(Step::Show(first)),
+            6 => Some(Step::Turns(first, u32::try_from(second).ok()?)),
+            7 => Some(Step::Walk(Place {
+                next: first,
+                owned: second,
+            })),
             _ => None,
         }
     }
@@ -86,7 +119,8 @@ pub fn marked_cases() -> Vec<Step> {
 }
 
 /// Opens and closes drawn as for `lists`, every eighth with a line or a period that no
-/// order can hold.
+/// order can hold. Each list's plan is then asked, damaged, asked again, and given calls
+/// that are refused and an open that is not.
 pub fn generated(seed: u64, count: u64, shape: Shape) -> Vec<Step> {
     let mut random = Random::new(seed);
     let mut steps = Vec::new();
@@ -95,6 +129,40 @@ pub fn generated(seed: u64, count: u64, shape: Shape) -> Vec<Step> {
         for order in lists::generate(shape, &mut random).chunks_exact(ORDER_BYTES) {
             steps.extend(step_of([order[0], order[1], order[2]], &mut random));
         }
+        steps.extend(questions(18, &mut random));
+        steps.push(Step::Write(
+            random.below(RECORD_NUMBERS),
+            4_096 + random.below(61_440),
+        ));
+        steps.extend(questions(2, &mut random));
+        steps.push(Step::Close(random.below(64)));
+        steps.push(Step::Open(random.below(64), 0));
+        steps.extend(questions(2, &mut random));
+        steps.push(Step::Open(random.below(64), 1 + random.below(4_095)));
+        steps.extend(questions(2, &mut random));
+    }
+    steps
+}
+
+/// Owner, show, turns and walks, at rounds near 0, 2^32 and 2^64.
+fn questions(count: u64, random: &mut Random) -> Vec<Step> {
+    let near = |random: &mut Random| {
+        let center = random.pick(&[0, 1 << 32, u64::MAX]);
+        let away = random.below(6);
+        let (above, below) = (center.checked_add(away), center.checked_sub(away));
+        let either = [above.or(below), below.or(above)];
+        random.pick(&either).unwrap_or(center)
+    };
+    let mut steps = Vec::new();
+    for _ in 0..count {
+        steps.push(Step::Owner(near(random)));
+        steps.push(Step::Owner(random.draw()));
+        steps.push(Step::Show(random.below(66)));
+        let rounds = [near(random) as u32, random.below(10_000) as u32];
+        steps.push(Step::Turns(random.below(66), random.pick(&rounds)));
+        let next = near(random);
+        let owned = near(random);
+        steps.push(Step::Walk(Place { next, owned }));
     }
     steps
 }
@@ -127,22 +195,73 @@ pub fn print_answers(script: &[u8], out: &mut impl Write) -> io::Result<()> {
         let Some(step) = bytes.try_into().ok().and_then(Step::of) else {
             break;
         };
-        match step {
-            Step::Open(line, period) => {
-                let answer = opened(plan.open(line, period));
-                writeln!(out, "open {line} {period} {answer}")?;
-            }
-            Step::Close(line) => {
-                let result = number(plan.close(line));
-                writeln!(out, "close {line} {result}")?;
-            }
-            Step::Begin => {
-                plan = Plan::empty();
-                writeln!(out, "plan")?;
-            }
-        }
+        print_step(&mut plan, step, out)?;
     }
     Ok(())
+}
+
+fn print_step(plan: &mut Plan, step: Step, out: &mut impl Write) -> io::Result<()> {
+    match step {
+        Step::Open(line, period) => {
+            let answer = opened(plan.open(line, period));
+            writeln!(out, "open {line} {period} {answer}")
+        }
+        Step::Close(line) => {
+            let result = number(plan.close(line));
+            writeln!(out, "close {line} {result}")
+        }
+        Step::Begin => {
+            *plan = Plan::empty();
+            writeln!(out, "plan")
+        }
+        Step::Write(place, number) => {
+            assert!(number > LAST_PERIOD, "the record may be a tree");
+            *plan = Plan::empty();
+            writeln!(out, "write {place} {number}")
+        }
+        Step::Owner(round) => writeln!(out, "owner {round} {}", owned(owner(plan, round))),
+        Step::Show(line) => writeln!(out, "show {line} {}", shown(show(plan, line))),
+        Step::Turns(line, rounds) => {
+            let answer = turned(turns(plan, line, rounds));
+            writeln!(out, "turns {line} {rounds} {answer}")
+        }
+        Step::Walk(place) => writeln!(out, "walk {}", walked(plan, place)),
+    }
+}
+
+fn owned(line: Option<u8>) -> String {
+    line.map_or("idle".to_string(), |line| line.to_string())
+}
+
+fn shown(answer: Result<Shown, Refusal>) -> String {
+    match answer {
+        Ok(shown) => {
+            let rows = shown
+                .path
+                .map(|row| format!(" {} {}", row.weight, row.edge));
+            format!("0 {} {}{}", shown.period.0, shown.start.0, rows.concat())
+        }
+        Err(refusal) => refusal.number().to_string(),
+    }
+}
+
+fn turned(answer: Result<u64, Refusal>) -> String {
+    match answer {
+        Ok(turns) => format!("0 {turns}"),
+        Err(refusal) => format!("{} -", refusal.number()),
+    }
+}
+
+fn walked(plan: &Plan, place: Place) -> String {
+    let mut after = place;
+    let answer = match walk(plan, &mut after) {
+        Ok(line) => owned(line),
+        Err(refusal) => format!("refused {}", refusal.number()),
+    };
+    format!(
+        "{} {} {answer} {} {}",
+        place.next, place.owned, after.next, after.owned
+    )
 }
 
 fn opened(answer: Result<Start, Refusal>) -> String {
@@ -162,10 +281,20 @@ mod tests {
 
     #[test]
     fn steps_are_read_back_from_their_bytes() {
-        for step in [Step::Open(64, 4_096), Step::Close(u64::MAX), Step::Begin] {
+        let next = u64::MAX;
+        for step in [
+            Step::Open(64, 4_096),
+            Step::Close(u64::MAX),
+            Step::Begin,
+            Step::Write(1_407, 65_535),
+            Step::Owner(u64::MAX),
+            Step::Show(64),
+            Step::Turns(3, u32::MAX),
+            Step::Walk(Place { next, owned: 5 }),
+        ] {
             assert_eq!(Step::of(step.bytes()), Some(step));
         }
-        assert_eq!(Step::of([3; STEP_BYTES]), None);
+        assert_eq!(Step::of([8; STEP_BYTES]), None);
     }
 
     #[test]
@@ -184,7 +313,7 @@ mod tests {
     }
 
     #[test]
-    fn generated_scripts_bring_every_answer_of_open_and_close() {
+    fn generated_scripts_bring_every_answer() {
         let mut text = Vec::new();
         for shape in ["sparse", "full", "deep", "primes"] {
             let mut script = Vec::new();
@@ -197,6 +326,16 @@ mod tests {
             assert!(text
                 .lines()
                 .any(|line| line.starts_with("open") && line.ends_with(answer)));
+        }
+        for start in [
+            "show 64 1",
+            "walk 18446744073709551615 ",
+            "walk 4294967297 ",
+        ] {
+            assert!(text.lines().any(|line| line.starts_with(start)), "{start}");
+        }
+        for part in [" refused 9 ", "owner 0 idle"] {
+            assert!(text.contains(part), "{part}");
         }
         for answer in [" 0", " 1", " 4"] {
             assert!(text

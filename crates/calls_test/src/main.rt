@@ -1,12 +1,18 @@
-// A test of `plan::change`, against the output of `second answers`: a script of calls is read from standard input,
-// carried out on one plan after another, and each answer is printed. second/src/script.rs says the formats.
+// A test of the calls of crate plan, against the output of `second answers`: a script of calls is read from standard
+// input, put to one plan after another, and each answer is printed. second/src/script.rs says the formats.
 ghost use Prim.Native.Nat.{_+_, _<_, _≤_};
 use libc::STDIN_FILENO;
 use libc::STDOUT_FILENO;
 use lines::CloseAnswer;
 use lines::OpenAnswer;
+use plan::ask::OwnerAnswer;
+use plan::ask::ShowAnswer;
+use plan::ask::TurnsAnswer;
+use plan::walker::WalkAnswer;
+use plan::walker::WalkerPlace;
 use tree::Period;
 use tree::Plan;
+use tree::Row;
 
 // More steps than a script has are not read.
 const MOST_STEPS: usize = 1000000;
@@ -90,7 +96,137 @@ fn run_close(current: Plan, line: u64) -> Plan {
     closing.plan
 }
 
-// One step: an open, a close, or the empty plan again.
+// A number of the record, written over.
+fn write_number(current: Plan, place: u64, number: u64) -> Plan {
+    text(b"write ");
+    decimal(place);
+    text(b" ");
+    decimal(number);
+    text(b"\n");
+    let mut damaged = current;
+    if place < 1408 && number < 65536 {
+        damaged.rows[place as usize] = number as u16;
+    }
+    damaged
+}
+
+fn run_owner(current: Plan, round: u64) {
+    text(b"owner ");
+    decimal(round);
+    text(b" ");
+    match plan::ask::owner(current, round) {
+        OwnerAnswer::Line(line) => decimal(line),
+        OwnerAnswer::Idle => text(b"idle"),
+    }
+    text(b"\n");
+}
+
+fn print_row(row: Row) {
+    text(b" ");
+    decimal(row.weight as u64);
+    text(b" ");
+    decimal(row.edge as u64);
+}
+
+fn print_rows(rows: [Row; 11]) {
+    for k in 0..11 {
+        print_row(rows[k]);
+    }
+}
+
+fn print_shown(answer: ShowAnswer, rows: [Row; 11]) {
+    match answer {
+        ShowAnswer::Times(period, start) => {
+            text(b"0 ");
+            decimal(period.0 as u64);
+            text(b" ");
+            decimal(start.0 as u64);
+            print_rows(rows);
+        }
+        ShowAnswer::Refused(number) => decimal(number as u64),
+    }
+}
+
+fn run_show(current: Plan, line: u64) {
+    text(b"show ");
+    decimal(line);
+    text(b" ");
+    let showing = plan::ask::show(current, line);
+    let answer = showing.answer;
+    let rows = showing.rows;
+    print_shown(answer, rows);
+    text(b"\n");
+}
+
+fn run_turns(current: Plan, line: u64, rounds: u32) {
+    text(b"turns ");
+    decimal(line);
+    text(b" ");
+    decimal(rounds as u64);
+    match plan::ask::turns(current, line, rounds) {
+        TurnsAnswer::Count(count) => {
+            text(b" 0 ");
+            decimal(count);
+            text(b"\n");
+        }
+        TurnsAnswer::Refused(number) => {
+            text(b" ");
+            decimal(number as u64);
+            text(b" -\n");
+        }
+    }
+}
+
+fn print_place(place: WalkerPlace) {
+    text(b" ");
+    decimal(place.next);
+    text(b" ");
+    decimal(place.owned);
+}
+
+fn print_walk(before: WalkerPlace, answer: WalkAnswer, after: WalkerPlace) {
+    print_place(before);
+    text(b" ");
+    match answer {
+        WalkAnswer::Line(line) => decimal(line),
+        WalkAnswer::Idle => text(b"idle"),
+        WalkAnswer::Refused(number) => {
+            text(b"refused ");
+            decimal(number as u64);
+        }
+    }
+    print_place(after);
+    text(b"\n");
+}
+
+// The walker by value. A place that is a local struct cannot be lent to a call within what the borrow checker covers.
+fn run_walk(current: Plan, place: WalkerPlace) {
+    let walked = plan::walker::walk(current, place);
+    let answer = walked.answer;
+    let after = walked.place;
+    text(b"walk");
+    print_walk(place, answer, after);
+}
+
+// A step that asks the plan.
+fn run_question(current: Plan, kind: u8, first: u64, second: u64) {
+    match kind {
+        4 => run_owner(current, first),
+        5 => run_show(current, first),
+        6 => run_turns(current, first, (second % 4294967296) as u32),
+        _ => {
+            run_walk(
+                current,
+                WalkerPlace {
+                    next: first,
+                    owned: second,
+                },
+            );
+        }
+    }
+}
+
+// One step: a call that changes the plan, the empty plan again, a number written over, or a question.
 fn run_step(current: Plan, step: &[u8; 17]) -> Plan {
     let kind = step[0];
     let first = number(step, 1);
@@ -98,9 +234,14 @@ fn run_step(current: Plan, step: &[u8; 17]) -> Plan {
     match kind {
         0 => run_open(current, first, second),
         1 => run_close(current, first),
-        _ => {
+        2 => {
             text(b"plan\n");
             plan::change::empty()
+        }
+        3 => write_number(current, first, second),
+        _ => {
+            run_question(current, kind, first, second);
+            current
         }
     }
 }
