@@ -4,3 +4,5 @@ pub mod OneOrder
 pub mod AnswerBytes
 pub mod OrdersInTurn
 pub mod WholeList
+pub mod AnswersFit
+pub mod CaseI
