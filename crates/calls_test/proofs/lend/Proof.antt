@@ -82,7 +82,7 @@ abbrev Lent : {M : Type 1} (𝓤 : URA M) (H : Heap 𝓤) (A : Atoms 𝓤) (mem 
 Lent 𝓤 H A mem run = tripleOf 𝓤 H A lent.signature (lent.spec 𝓤 H A mem run)
 
 module _ {M : Type 1} (𝓤 : URA M) (H : Heap 𝓤) (A : Atoms 𝓤) (W : Given 𝓤 H A) (h : WalkerPlace) (l : ℕ) where
-  -- a local that holds a place is a place that can be lent, and back
+  -- a local that holds a place can be lent as one, and what comes back is such a local
   place-in : Is R.the-row h (place-value h ∷ []) → ent 𝓤 (H .at fullShare R′.mir l 0 (place-value h)) (sem 𝓤 H A (mem R.the-row .lies h l 0))
   unfolding partOf
   place-in is =
@@ -98,10 +98,7 @@ module _ {M : Type 1} (𝓤 : URA M) (H : Heap 𝓤) (A : Atoms 𝓤) (W : Given
       use1 W (‵ (fat fullShare R′.mir l 0 (place-value h))) (W .laws .raw-at fullShare R′.mir l 0 (place-value h)) $ check ! is $ done !))
 
 module _ {M : Type 1} (𝓤 : URA M) (H : Heap 𝓤) (A : Atoms 𝓤) (W : Given 𝓤 H A) (at-mem : Memory → SProp 𝓤) (run : Routine → Fun 𝓤) (plan : Plan) (is-plan : Is P.the-row plan (plan-value plan ∷ [])) (h : WalkerPlace) (is-place : Is R.the-row h (place-value h ∷ [])) where
-  abbrev Arg : Type 0
-  Arg = Plan × (WalkerPlace × Unit {0})
-
-  abbrev x : Arg
+  abbrev x : Plan × (WalkerPlace × Unit {0})
   x = (plan, (h, tt))
 
   abbrev at : List Val × (List Val × Unit {0})
@@ -116,7 +113,7 @@ module _ {M : Type 1} (𝓤 : URA M) (H : Heap 𝓤) (A : Atoms 𝓤) (W : Given
       owned ! D.the-row (Is D.the-row) (LL.makes D.the-type D′.the-plain 𝓤 H A) r _ is $
       nothing ! $ owned ! R.the-row (Is R.the-row) (LL.makes R.the-type R′.the-plain 𝓤 H A) h _ is-place $ fjoin ! $ owned ! P.the-row (Is P.the-row) (LL.makes P.the-type P′.the-plain 𝓤 H A) plan _ is-plan $ fjoin ! $ nothing ! $ done !
 
-  -- the place lent for the lifetime α, under the name γ, and what `walk_lent`'s triple binds outside
+  -- the place at l, lent under the name γ, and what `walk_lent`'s triple binds outside where it is lent for the lifetime α
   abbrev place-lent : ℕ → GName → RefT WalkerPlace
   place-lent l γ = record { ptr = (l, 0); name = γ; now = h }
 
@@ -147,19 +144,20 @@ module _ {M : Type 1} (𝓤 : URA M) (H : Heap 𝓤) (A : Atoms 𝓤) (W : Given
         use1 W (later (some (λ (r : WalkAnswer). ((‵ (flft (α ∷ []) fullShare) ⊛ ‵ ftrue) ⊛ ‵ (N.the-row .own r (v ∷ []))) ⊛ raw (ensured 𝓤 H A lent.ended (lent.clauses 𝓤 H A at-mem run) (α ∷ [], tt) (plan, (place-lent l₃ γ, tt)) tt r)))) (id⊢ 𝓤 _) $ await ! tt $ pick ! (λ r.
         -- what `walk_lent` ensures, at some last place
         split ! $ move ! (1 ∷ []) $ use1 W (some (λ (ws : Unit {0} × (WalkerPlace × Unit {0})). ‵ (lasts lent.ended (α ∷ [], tt) (plan, (place-lent l₃ γ, tt)) ws) ⊛ raw (fact 𝓤 (WalkedOn h (treeOf plan) r (ws .1 .0))))) (id⊢ 𝓤 _) $ pick ! (λ ws.
-        split ! $ move ! (1 ∷ []) $ heard ! (WalkedOn h (treeOf plan) r (ws .1 .0)) (λ e. fsplit ! $ drop ! $ fsplit ! $
+        let last : WalkerPlace = ws .1 .0 in
+        split ! $ move ! (1 ∷ []) $ heard ! (WalkedOn h (treeOf plan) r last) (λ e. fsplit ! $ drop ! $ fsplit ! $
         move ! (2 ∷ []) $ split ! $ move ! (1 ∷ []) $ facts ! N.the-row (Is N.the-row) (shows 𝓤 H A N.the-row) r (v ∷ []) (λ is.
         -- [the token; the last place; …; the lender's part; room for _6; …; _5; …; room for _4; …; of _3; _2; …; _1; …; room for _0; …]
         land ! (from ! (stop !)) (init ! 8 refl (D′.the-laws .0 .lawful 𝓤 H A W .typed (N.the-field .into r) _ is .0)) $
         rewrite ! 8 (λ (u : Val). ‵ (fat fullShare N′.mir l₄ 0 u)) (ap only (D′.the-laws .0 .tells (N.the-field .into r) (v ∷ []) is)) refl $
         -- the lifetime is ended, and _3 is taken back at that place
-        split ! $ lft-end ! tt $ move ! (0 ∷ 4 ∷ 2 ∷ []) $ use3 W (later (‵ (mem R.the-row .lies (ws .1 .0) l₃ 0))) (ref-back 𝓤 H A W R.the-row (α ∷ []) γ (ws .1 .0) l₃ 0) $ await ! tt $
-        use1 W (given (Is R.the-row (ws .1 .0) (place-value (ws .1 .0) ∷ [])) (‵ (fat fullShare R′.mir l₃ 0 (place-value (ws .1 .0))))) (place-out 𝓤 H A W (ws .1 .0) l₃) $ learn ! (λ is-last.
-        let given-back : Walked = record { answer = r; place = ws .1 .0 } in
+        split ! $ lft-end ! tt $ move ! (0 ∷ 4 ∷ 2 ∷ []) $ use3 W (later (‵ (mem R.the-row .lies last l₃ 0))) (ref-back 𝓤 H A W R.the-row (α ∷ []) γ last l₃ 0) $ await ! tt $
+        use1 W (given (Is R.the-row last (place-value last ∷ [])) (‵ (fat fullShare R′.mir l₃ 0 (place-value last)))) (place-out 𝓤 H A W last l₃) $ learn ! (λ is-last.
+        let given-back : Walked = record { answer = r; place = last } in
         let is-answer : Is N.the-row r (answer-value r ∷ []) = subst (Is N.the-row r) (D′.the-laws .0 .tells (N.the-field .into r) (v ∷ []) is) is in
         let is-walked : Is D.the-row given-back (walked-value given-back ∷ []) = LL.owes D.the-type D′.the-laws given-back (is-answer, (is-last, tt)) in
         -- [_3; true; true; room for _6; …; _5; …; _4; …; of _3; _2; …; _1; …; room for _0; …]
-        assigns ! (of-opd ! (load ! (from ! (stop !)) (look ! 0 refl))) (from ! (stop !)) (init ! 3 refl (LL.lawful R.the-type R′.the-laws 𝓤 H A W .typed (ws .1 .0) _ is-last .0)) $
+        assigns ! (of-opd ! (load ! (from ! (stop !)) (look ! 0 refl))) (from ! (stop !)) (init ! 3 refl (LL.lawful R.the-type R′.the-laws 𝓤 H A W .typed last _ is-last .0)) $
         assigns ! (agg ! (and-then ! (load ! (from ! (stop !)) (look ! 7 refl)) (and-then ! (load ! (from ! (stop !)) (look ! 3 refl)) (no-more !)))) (from ! (stop !)) (init ! 14 refl (LL.lawful D.the-type D′.the-laws 𝓤 H A W .typed given-back _ is-walked .0)) $
         returns ! (look ! 14 refl) $ forget ! 0 refl $ forget ! 3 refl $ forget ! 5 refl $ forget ! 7 refl $ forget ! 10 refl $ forget ! 12 refl $ forget ! 14 refl $
         move ! (14 ∷ 15 ∷ []) $ free1 ! $ move ! (12 ∷ 13 ∷ []) $ free1 ! $ move ! (10 ∷ 11 ∷ []) $ free1 ! $ move ! (0 ∷ 9 ∷ []) $ free1 ! $ move ! (6 ∷ 7 ∷ []) $ free1 ! $ move ! (4 ∷ 5 ∷ []) $ free1 ! $ move ! (2 ∷ 3 ∷ []) $ free1 ! $ free0 ! $
