@@ -10,7 +10,7 @@ use lib.ListN.{length}
 use borrow.Author.Tests.{eq-eqb, ne-eqb}
 use Rattle.tree.specs.declared.Row.{Row}
 use Rattle.tree.specs.Record.{row-at, path-at}
-use Rattle.tree.specs.Paths.{row-of, same-node}
+use Rattle.paths.specs.Rules.{row-of, same-node}
 use Rattle.paths.proofs.AllBelow.{both-true}
 use Rattle.paths.proofs.PathRows.{row-in-path}
 use Rattle.asking.specs.Answers.{takes-edge}

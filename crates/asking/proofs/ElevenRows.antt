@@ -15,7 +15,7 @@ use Rattle.tree.specs.declared.Row.{Row}
 use Rattle.tree.specs.Tree.{row}
 use Rattle.tree.specs.Asking.{rows-11}
 use Rattle.tree.specs.Record.{row-at, path-at, unused, rest-unused}
-use Rattle.tree.specs.Paths.{row-of}
+use Rattle.paths.specs.Rules.{row-of}
 use Rattle.paths.proofs.AllBelow.{all-below-each, both-true}
 use Rattle.paths.proofs.PathRows.{row-in-path}
 

@@ -12,7 +12,7 @@ use lib.ListN.{length}
 use borrow.Author.Tests.{eqb-false, not-true}
 use Rattle.tree.specs.declared.Row.{Row}
 use Rattle.tree.specs.Record.{row-at, path-at, no-rows}
-use Rattle.tree.specs.Paths.{Family, row-of, same-node, line-under, walk-on-paths, owner-on-paths}
+use Rattle.paths.specs.Rules.{Family, row-of, same-node, line-under, walk-on-paths, owner-on-paths}
 use Rattle.tree.proofs.Searching.{smallest-some}
 use Rattle.paths.proofs.AllBelow.{both-true}
 use Rattle.paths.proofs.PathRows.{row-in-path, weight-in-path}

@@ -8,7 +8,7 @@ use lib.Dec.{eqb}
 use Rattle.tree.specs.declared.Row.{Row}
 use Rattle.tree.specs.Search.{smallest}
 use Rattle.tree.specs.Record.{no-rows}
-use Rattle.tree.specs.Paths.{Family, row-of, same-node}
+use Rattle.paths.specs.Rules.{Family, row-of, same-node}
 use Rattle.asking.specs.declared.Through.{Through}
 use Rattle.asking.specs.declared.Owner.{Owner}
 use Rattle.asking.specs.declared.Through.the-variants as through

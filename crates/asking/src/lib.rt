@@ -7,7 +7,7 @@ ghost use lib.ListN.{length};
 ghost use Rattle.tree.specs.Tree.{product, sum};
 ghost use Rattle.tree.specs.Asking.{rows-11};
 ghost use Rattle.tree.specs.Record.{path-at, legal};
-ghost use Rattle.tree.specs.Paths.{line-under, walk-on-paths, owner-on-paths};
+ghost use Rattle.paths.specs.Rules.{line-under, walk-on-paths, owner-on-paths};
 ghost use Rattle.asking.specs.Answers.{line-through, takes-edge, first-open, owner-answered};
 use tree::Period;
 use tree::Row;

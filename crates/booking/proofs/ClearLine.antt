@@ -8,7 +8,7 @@ use lib.ListN.{length}
 use Rattle.tree.specs.declared.Row.{Row}
 use Rattle.tree.specs.Tree.{row}
 use Rattle.tree.specs.Record.{row-at, path-at}
-use Rattle.tree.specs.Paths.{row-of, set-line}
+use Rattle.paths.specs.Rules.{row-of, set-line}
 use Rattle.booking.specs.Writing.{set-row}
 use Rattle.booking.proofs.SetLine.{set-line-size, set-line-row, set-line-other, set-line-again}
 use Rattle.booking.proofs.PathRows.{path-same}

@@ -13,7 +13,7 @@ use borrow.Author.Tests.{eqb-true, eqb-false, ne-eqb, le-ltb}
 use Rattle.tree.specs.Search.{if_then_else_}
 use Rattle.tree.specs.Tree.{row}
 use Rattle.tree.specs.Record.{row-at, path-from, path-at, unused, rest-unused}
-use Rattle.tree.specs.Paths.{row-of}
+use Rattle.paths.specs.Rules.{row-of}
 use Rattle.paths.proofs.AllBelow.{all-below-each, all-below-all, both-true}
 use Rattle.paths.proofs.UnusedRows.{row-right}
 

@@ -12,7 +12,7 @@ use Rattle.tree.specs.declared.Row.{Row}
 use Rattle.tree.specs.Search.{if_then_else_}
 use Rattle.tree.specs.Tree.{row}
 use Rattle.tree.specs.Record.{row-at, path-at}
-use Rattle.tree.specs.Paths.{row-of, set-line, booked-path}
+use Rattle.paths.specs.Rules.{row-of, set-line, booked-path}
 use Rattle.booking.specs.Writing.{set-row, Placeable}
 use Rattle.booking.proofs.PathRows.{path-row}
 use Rattle.booking.proofs.ClearLine.{cleared-size, cleared-row, cleared-keeps-path, set-cleared-line}

@@ -12,7 +12,7 @@ use Rattle.tree.specs.declared.Row.{Row}
 use Rattle.tree.specs.Tree.{row}
 use Rattle.tree.specs.Asking.{rows-11}
 use Rattle.tree.specs.Record.{row-at, numbers}
-use Rattle.tree.specs.Paths.{row-of, set-line}
+use Rattle.paths.specs.Rules.{row-of, set-line}
 use Rattle.booking.proofs.RecordRows.{same-record}
 
 -- Rows as numbers

@@ -13,7 +13,7 @@ use lib.ListN.{length}
 use Rattle.tree.specs.declared.Row.{Row}
 use Rattle.tree.specs.Search.{if_then_else_}
 use Rattle.tree.specs.Record.{row-at, path-at}
-use Rattle.tree.specs.Paths.{row-of, same-node, set-line, split-path, split-lines}
+use Rattle.paths.specs.Rules.{row-of, same-node, set-line, split-path, split-lines}
 use Rattle.paths.proofs.AllBelow.{both-true}
 use Rattle.paths.proofs.PathRest.{path-length-at-most-11}
 use Rattle.booking.specs.Writing.{SplittableOnLine, Splittable}

@@ -9,7 +9,7 @@ use lib.ListN.{length}
 use Rattle.tree.specs.declared.Row.{Row}
 use Rattle.tree.specs.Tree.{row}
 use Rattle.tree.specs.Record.{row-at, path-at}
-use Rattle.tree.specs.Paths.{row-of, set-line, split-path}
+use Rattle.paths.specs.Rules.{row-of, set-line, split-path}
 use Rattle.booking.specs.Writing.{set-row, SplittableOnLine}
 use Rattle.booking.proofs.PathRows.{path-row, line-row}
 use Rattle.booking.proofs.WrittenRows.{Written, written-none, written-previous, written-line}

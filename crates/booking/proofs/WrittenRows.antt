@@ -9,7 +9,7 @@ use lib.ListN.{length, List·getD-eq-default}
 use Rattle.tree.specs.declared.Row.{Row}
 use Rattle.tree.specs.Tree.{row}
 use Rattle.tree.specs.Record.{row-at}
-use Rattle.tree.specs.Paths.{row-of, set-line}
+use Rattle.paths.specs.Rules.{row-of, set-line}
 use Rattle.booking.specs.Writing.{set-row}
 use Rattle.booking.proofs.RecordRows.{set-row-size, set-row-here, set-row-other-line, set-row-other-row}
 use Rattle.booking.proofs.SetLine.{is-set-line}

@@ -7,7 +7,7 @@ use mathlib.Core.List.{List}
 use lib.ListN.{length, take, set}
 use Rattle.tree.specs.declared.Row.{Row}
 use Rattle.tree.specs.Record.{path-at, rest-unused}
-use Rattle.tree.specs.Paths.{same-node, booked-path}
+use Rattle.paths.specs.Rules.{same-node, booked-path}
 
 -- the record with row k of line L replaced
 unfoldable pub set-row : List ℕ → ℕ → ℕ → Row → List ℕ

@@ -6,7 +6,7 @@ ghost use Prim.Native.Nat.{_<_};
 ghost use lib.ListN.{length, take};
 ghost use Rattle.tree.specs.Tree.{row};
 ghost use Rattle.tree.specs.Record.{path-at};
-ghost use Rattle.tree.specs.Paths.{set-line, split-path, split-lines, booked-path};
+ghost use Rattle.paths.specs.Rules.{set-line, split-path, split-lines, booked-path};
 ghost use Rattle.booking.specs.Writing.{set-row, SplittableOnLine, Splittable, Placeable};
 use paths::edge;
 use paths::same_node;

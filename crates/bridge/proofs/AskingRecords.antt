@@ -12,7 +12,7 @@ use Rattle.tree.specs.Asking.{owner, rows-11, shown, turns}
 use Rattle.tree.specs.Refusals.{line-refusal}
 use Rattle.tree.specs.Calls.{gives, refuses, gives-unless, show-outcome, turns-outcome}
 use Rattle.tree.specs.Record.{path-at, no-rows, legal}
-use Rattle.tree.specs.Paths.{owner-on-paths}
+use Rattle.paths.specs.Rules.{owner-on-paths}
 use Rattle.tree.proofs.Checks.{line-refused-1, line-refused-4, close-allowed}
 use Rattle.bridge.specs.Rows.{tree-of}
 use Rattle.bridge.proofs.TreeOfRecord.{treeOf-illegal, treeOf-legal, treeOf-open, treeOf-paths}

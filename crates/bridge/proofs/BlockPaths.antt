@@ -15,7 +15,7 @@ use Rattle.tree.specs.declared.Row.{Row}
 use Rattle.tree.specs.Tree.{row}
 use Rattle.tree.specs.Asking.{rows-11}
 use Rattle.tree.specs.Record.{row-at, path-at, unused, rest-unused, numbers}
-use Rattle.tree.specs.Paths.{row-of}
+use Rattle.paths.specs.Rules.{row-of}
 use Rattle.tree.proofs.Searching.{all-below-at, all-below-each}
 use Rattle.bridge.proofs.Blocks.{block, block-length, rows-11-length}
 use Rattle.bridge.proofs.RowsOfNumbers.{row-in, row-in-numbers, numbers-by-rows, row-of-rows-11, row-of-beyond}

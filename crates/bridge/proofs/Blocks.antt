@@ -14,7 +14,7 @@ use Rattle.tree.specs.declared.Row.{Row}
 use Rattle.tree.specs.Tree.{Tree, row, path-of}
 use Rattle.tree.specs.Asking.{rows-11}
 use Rattle.tree.specs.Record.{numbers, numbers-below, recordOf}
-use Rattle.tree.specs.Paths.{set-line}
+use Rattle.paths.specs.Rules.{set-line}
 use Rattle.tree.proofs.Searching.{last-or-below}
 
 -- the 22 numbers of line L

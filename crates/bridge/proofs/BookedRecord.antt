@@ -17,7 +17,7 @@ use Rattle.tree.specs.Tree.{Tree, node, path, path-of, step}
 use Rattle.tree.specs.Opening.{divisor, opened, start-in, start-given}
 use Rattle.tree.specs.Asking.{rows-11}
 use Rattle.tree.specs.Record.{path-at, no-rows, legal, treeOf, numbers, recordOf}
-use Rattle.tree.specs.Paths.{row-of, same-node, Spot, place-of, set-line, split-path, split-lines, booked-path, booked-at}
+use Rattle.paths.specs.Rules.{row-of, same-node, Spot, place-of, set-line, split-path, split-lines, booked-path, booked-at}
 use Rattle.tree.proofs.Searching.{last-or-below}
 use Rattle.tree.proofs.Opening.{MayOpen, opened-legal}
 use Rattle.bridge.proofs.Blocks.{block, set-line-length, block-set-line-same, block-set-line-other, rows-by-blocks, record-length, block-of-record}

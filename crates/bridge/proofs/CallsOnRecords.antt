@@ -15,7 +15,7 @@ use Rattle.tree.specs.Closing.{closed}
 use Rattle.tree.specs.Refusals.{no-room, period-out-of-range, open-refusal}
 use Rattle.tree.specs.Calls.{Call, open-line, close-line, booked, done, refused, refusal, reply, carried-out, answer-unless, answer}
 use Rattle.tree.specs.Record.{path-at, no-rows, legal, recordOf}
-use Rattle.tree.specs.Paths.{Spot, best-of-lines, set-line, booked-at}
+use Rattle.paths.specs.Rules.{Spot, best-of-lines, set-line, booked-at}
 use Rattle.tree.proofs.UnderEdge.{stands-present}
 use Rattle.tree.proofs.Standing.{open-stands}
 use Rattle.tree.proofs.Checks.{open-last-check, close-allowed, open-may}

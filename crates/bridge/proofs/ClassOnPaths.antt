@@ -16,7 +16,7 @@ use Rattle.tree.specs.Search.{if_then_else_, found, smallest}
 use Rattle.tree.specs.Tree.{Tree, present, product, path, path-of, Place, at, step}
 use Rattle.tree.specs.Shape.{Legal}
 use Rattle.tree.specs.Opening.{divisor, free, free-class, candidate, candidate-at, class-at}
-use Rattle.tree.specs.Paths.{Family, row-of, same-node, class-taken, class-on-path, Spot, spot-with, spot-at}
+use Rattle.paths.specs.Rules.{Family, row-of, same-node, class-taken, class-on-path, Spot, spot-with, spot-at}
 use Rattle.tree.proofs.Searching.{some-below-true, some-below-at}
 use Rattle.tree.proofs.Classes.{present-taken, taken-present}
 use Rattle.bridge.proofs.NodesOnPaths.{place-on, NodeOnPath, path-node, same-node-long, LineThrough, edge-present, through-edge-below, same-node-through, through-same-node}

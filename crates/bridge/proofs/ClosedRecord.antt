@@ -13,7 +13,7 @@ use Rattle.tree.specs.Tree.{Tree, path-of}
 use Rattle.tree.specs.Asking.{rows-11}
 use Rattle.tree.specs.Closing.{closed}
 use Rattle.tree.specs.Record.{path-at, path-in-range, rest-unused, legal, treeOf, numbers, recordOf}
-use Rattle.tree.specs.Paths.{set-line}
+use Rattle.paths.specs.Rules.{set-line}
 use Rattle.tree.proofs.Searching.{all-below-at}
 use Rattle.bridge.proofs.Blocks.{block, set-line-length, block-set-line-same, block-set-line-other, rows-by-blocks, record-length, block-of-record}
 use Rattle.bridge.proofs.BlockPaths.{block-of-path}

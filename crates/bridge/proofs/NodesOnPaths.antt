@@ -16,7 +16,7 @@ use Rattle.tree.specs.declared.Row.{Row}
 use Rattle.tree.specs.Tree.{Tree, nothing, line, node, present, row, sum-from, sum, path, is-open, Place, at-digits, at, way-by-digits, way}
 use Rattle.tree.specs.Opening.{under}
 use Rattle.tree.specs.Shape.{Edges, Legal}
-use Rattle.tree.specs.Paths.{row-of, same-node}
+use Rattle.paths.specs.Rules.{row-of, same-node}
 use Rattle.tree.proofs.Digits.{digit-low, digit-high}
 use Rattle.tree.proofs.Searching.{first-only, found-some, some-below-true}
 use Rattle.tree.proofs.UnderEdge.{stands-present}

@@ -14,7 +14,7 @@ use Rattle.tree.specs.declared.Row.{Row}
 use Rattle.tree.specs.Search.{if_then_else_}
 use Rattle.tree.specs.Tree.{Tree, nothing, line, node, row, product, present, at-digits, way-by-digits}
 use Rattle.tree.specs.Opening.{divisor, split, put, one-edge, newcomer, booking, book-by-digits}
-use Rattle.tree.specs.Paths.{split-path, booked-path}
+use Rattle.paths.specs.Rules.{split-path, booked-path}
 use Rattle.tree.proofs.Digits.{digits-of}
 use Rattle.tree.proofs.UnderEdge.{stands-present}
 use Rattle.tree.proofs.Put.{put-same, put-other}

@@ -12,7 +12,7 @@ use Rattle.tree.specs.declared.Row.{Row}
 use Rattle.tree.specs.Search.{if_then_else_}
 use Rattle.tree.specs.Tree.{Tree, nothing, line, node, row, present, path, Place, at, way, step}
 use Rattle.tree.specs.Opening.{divisor, book-by-digits, class-at, book-into, chosen, opened}
-use Rattle.tree.specs.Paths.{split-path, booked-path}
+use Rattle.paths.specs.Rules.{split-path, booked-path}
 use Rattle.tree.proofs.Put.{stands-one-edge}
 use Rattle.tree.proofs.Proper.{Proper, one-edge-proper, legal-proper}
 use Rattle.tree.proofs.Standing.{path-found}

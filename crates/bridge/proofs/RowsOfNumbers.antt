@@ -10,7 +10,7 @@ use Rattle.tree.specs.declared.Row.{Row}
 use Rattle.tree.specs.Tree.{row}
 use Rattle.tree.specs.Asking.{rows-11}
 use Rattle.tree.specs.Record.{numbers}
-use Rattle.tree.specs.Paths.{row-of}
+use Rattle.paths.specs.Rules.{row-of}
 
 -- row k of the numbers of one line
 unfoldable pub row-in : List ℕ → ℕ → Row

@@ -12,7 +12,7 @@ use Rattle.tree.specs.Search.{if_then_else_, found}
 use Rattle.tree.specs.Tree.{Tree, nothing, line, node, sum, Place, at, way, step}
 use Rattle.tree.specs.Shape.{Legal}
 use Rattle.tree.specs.Opening.{divisor, free-class, candidate, candidate-at, before, NoCandidate, class-at, chosen}
-use Rattle.tree.specs.Paths.{Family, row-of, Spot, place-of, spot-at, better-spot, best-on-path, best-of-lines}
+use Rattle.paths.specs.Rules.{Family, row-of, Spot, place-of, spot-at, better-spot, best-on-path, best-of-lines}
 use Rattle.tree.proofs.Searching.{if-some}
 use Rattle.tree.proofs.Proper.{legal-proper}
 use Rattle.tree.proofs.PlaceOrder.{before-not-self}

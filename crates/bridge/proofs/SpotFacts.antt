@@ -15,7 +15,7 @@ use Rattle.tree.specs.declared.Plan.{Plan}
 use Rattle.tree.specs.Tree.{Tree, node, at, way, step}
 use Rattle.tree.specs.Opening.{divisor, class-at, opened, start-given}
 use Rattle.tree.specs.Record.{path-at, legal, treeOf}
-use Rattle.tree.specs.Paths.{row-of, same-node, Spot, place-of, split-path, booked-path}
+use Rattle.paths.specs.Rules.{row-of, same-node, Spot, place-of, split-path, booked-path}
 use Rattle.tree.proofs.Standing.{start-below-period}
 use Rattle.tree.proofs.Proper.{legal-proper}
 use Rattle.tree.proofs.Depth.{at-most-11-above}

@@ -17,7 +17,7 @@ use Rattle.tree.specs.Tree.{Tree, nothing, line, node, present, sum-from, sum, 
 use Rattle.tree.specs.Shape.{Legal}
 use Rattle.tree.specs.Asking.{owner}
 use Rattle.tree.specs.Record.{no-rows}
-use Rattle.tree.specs.Paths.{Family, row-of, same-node, line-under, walk-on-paths, owner-on-paths}
+use Rattle.paths.specs.Rules.{Family, row-of, same-node, line-under, walk-on-paths, owner-on-paths}
 use Rattle.tree.proofs.Searching.{smallest-some, smallest-none}
 use Rattle.tree.proofs.Standing.{path-of-line}
 use Rattle.tree.proofs.Depth.{at-most-11-above}

@@ -10,7 +10,7 @@ use mathlib.Core.Option.{Option}
 use lib.ListN.{length, take}
 use Rattle.tree.specs.Tree.{product, sum-from, sum}
 use Rattle.tree.specs.Record.{row-at, path-at, legal}
-use Rattle.tree.specs.Paths.{Spot, spot-at, better-spot, best-on-path, best-of-lines}
+use Rattle.paths.specs.Rules.{Spot, spot-at, better-spot, best-on-path, best-of-lines}
 use Rattle.paths.proofs.LegalLines.{legal-in-range}
 use Rattle.candidates.specs.declared.Chosen.{Chosen}
 use Rattle.candidates.specs.declared.Chosen.the-variants.{Nothing}

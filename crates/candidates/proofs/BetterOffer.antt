@@ -7,7 +7,7 @@ use mathlib.Core.List.{List}
 use borrow.Author.Tests.{ne-eqb}
 use Rattle.tree.specs.Numbers.{divides}
 use Rattle.tree.specs.Record.{path-at, legal}
-use Rattle.tree.specs.Paths.{Family, spot-with, spot-at, better-spot}
+use Rattle.paths.specs.Rules.{Family, spot-with, spot-at, better-spot}
 use Rattle.candidates.specs.declared.Spot.{Spot}
 use Rattle.candidates.specs.declared.Chosen.{Chosen}
 use Rattle.candidates.specs.declared.Chosen.the-variants.{At, Nothing}

@@ -9,7 +9,7 @@ use mathlib.Core.Option.{none, some}
 use lib.Dec.{eqb}
 use borrow.Author.Tests.{eq-eqb, ne-eqb}
 use Rattle.tree.specs.Record.{row-at, path-at}
-use Rattle.tree.specs.Paths.{row-of, same-node, class-taken, class-on-path}
+use Rattle.paths.specs.Rules.{row-of, same-node, class-taken, class-on-path}
 use Rattle.tree.proofs.Searching.{some-below-at}
 use Rattle.candidates.proofs.NoneBelow.{NoneBelow, none-below-start, none-below-more, smallest-here, smallest-nowhere, none-passes}
 use Rattle.candidates.proofs.PathRows.{path-row, same-node-goes-on}

@@ -9,7 +9,7 @@ use mathlib.Core.Option.{Option, none, some, Option·some-ne-none, Option·some-
 use lib.ListN.{length}
 use Rattle.tree.specs.Search.{if_then_else_}
 use Rattle.tree.specs.Opening.{before}
-use Rattle.tree.specs.Paths.{Family, Spot, place-of, spot-at, better-spot, best-on-path, best-of-lines}
+use Rattle.paths.specs.Rules.{Family, Spot, place-of, spot-at, better-spot, best-on-path, best-of-lines}
 use Rattle.tree.proofs.PlaceOrder.{before-not-self, before-asym, not-before-trans}
 use Rattle.tree.proofs.Searching.{last-or-below}
 use Rattle.candidates.proofs.Spots.{better-than-none}

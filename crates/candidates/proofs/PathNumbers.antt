@@ -13,7 +13,7 @@ use borrow.Author.Tests.{ltb-true, leb-true, eqb-true}
 use Rattle.tree.specs.declared.Row.{Row}
 use Rattle.tree.specs.Tree.{row, product, sum-from, sum}
 use Rattle.tree.specs.Record.{rows-in-range, alone, path-in-range}
-use Rattle.tree.specs.Paths.{row-of}
+use Rattle.paths.specs.Rules.{row-of}
 use Rattle.tree.proofs.Digits.{digits-below}
 use Rattle.tree.proofs.Standing.{sum-row}
 use Rattle.paths.proofs.AllBelow.{both-true}

@@ -12,7 +12,7 @@ use Rattle.tree.specs.declared.Row.{Row}
 use Rattle.tree.specs.Search.{if_then_else_}
 use Rattle.tree.specs.Tree.{row}
 use Rattle.tree.specs.Record.{row-at, path-from, path-at}
-use Rattle.tree.specs.Paths.{row-of, same-node}
+use Rattle.paths.specs.Rules.{row-of, same-node}
 use Rattle.paths.proofs.AllBelow.{both-true}
 
 path-from-row : (rows : List ℕ) (L k n l : ℕ) → l < length (path-from rows L k n) → getD (path-from rows L k n) l (row 0 0) ≡ row-at rows L (k + l)

@@ -14,7 +14,7 @@ use Rattle.tree.specs.Search.{if_then_else_}
 use Rattle.tree.specs.Tree.{product, sum}
 use Rattle.tree.specs.Opening.{divisor}
 use Rattle.tree.specs.Record.{path-at, parts, no-rows, together, legal}
-use Rattle.tree.specs.Paths.{Family, row-of, same-node, class-taken, class-on-path, Spot, place-of, spot-with, spot-at, better-spot}
+use Rattle.paths.specs.Rules.{Family, row-of, same-node, class-taken, class-on-path, Spot, place-of, spot-with, spot-at, better-spot}
 use Rattle.tree.proofs.Searching.{some-below-true, some-below-at}
 use Rattle.paths.proofs.AllBelow.{both-true}
 use Rattle.paths.proofs.LegalLines.{legal-together}

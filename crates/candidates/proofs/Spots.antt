@@ -12,7 +12,7 @@ use Rattle.tree.specs.Search.{if_then_else_}
 use Rattle.tree.specs.Tree.{Place}
 use Rattle.tree.specs.Opening.{divisor}
 use Rattle.tree.specs.Record.{row-at, path-at}
-use Rattle.tree.specs.Paths.{Family, row-of, Spot, place-of, class-on-path, spot-with, better-spot}
+use Rattle.paths.specs.Rules.{Family, row-of, Spot, place-of, class-on-path, spot-with, better-spot}
 use Rattle.tree.proofs.PlaceOrder.{before-in-level, before-across-levels}
 use Rattle.candidates.specs.declared.Class.{Class}
 use Rattle.candidates.specs.declared.Class.the-variants.{Free, Full}

@@ -8,7 +8,7 @@ use lib.ListN.{length, take}
 use Rattle.tree.specs.Search.{some-below}
 use Rattle.tree.specs.Tree.{product, sum, Place}
 use Rattle.tree.specs.Opening.{before}
-use Rattle.tree.specs.Paths.{Family, same-node, Spot, place-of, best-on-path, best-of-lines}
+use Rattle.paths.specs.Rules.{Family, same-node, Spot, place-of, best-on-path, best-of-lines}
 use Rattle.candidates.specs.declared.Spot.{Spot as FoundSpot}
 use Rattle.candidates.specs.declared.Class.{Class}
 use Rattle.candidates.specs.declared.Class.the-variants.{Free, Full}

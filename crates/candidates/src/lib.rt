@@ -5,7 +5,7 @@ ghost use Prim.Native.Nat.{_<_};
 ghost use lib.ListN.{length};
 ghost use Rattle.tree.specs.Numbers.{gcd, divides};
 ghost use Rattle.tree.specs.Record.{path-at, legal};
-ghost use Rattle.tree.specs.Paths.{class-on-path, spot-with, spot-at, better-spot, best-on-path, best-of-lines};
+ghost use Rattle.paths.specs.Rules.{class-on-path, spot-with, spot-at, better-spot, best-on-path, best-of-lines};
 ghost use Rattle.candidates.specs.Answers.{class-of, spot-of, comes-first, seen-earlier, Reached};
 use paths::edge;
 use paths::path_length;

@@ -9,7 +9,7 @@ use lib.ListN.{length}
 use Rattle.tree.specs.declared.Row.{Row}
 use Rattle.tree.specs.Calls.{close-line, refusal, refused, done}
 use Rattle.tree.specs.Record.{path-at, no-rows, legal}
-use Rattle.tree.specs.Paths.{set-line}
+use Rattle.paths.specs.Rules.{set-line}
 use Rattle.tree.proofs.Checks.{line-refused-1, line-refused-4}
 use Rattle.paths.specs.declared.Found.the-variants.{At, Nothing}
 use Rattle.paths.specs.Answers.{lookup}

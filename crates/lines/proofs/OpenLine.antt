@@ -14,7 +14,7 @@ use Rattle.tree.specs.Tree.{row}
 use Rattle.tree.specs.Refusals.{period-out-of-range}
 use Rattle.tree.specs.Calls.{open-line, refusal, refused, booked}
 use Rattle.tree.specs.Record.{path-at, no-rows, legal}
-use Rattle.tree.specs.Paths.{row-of, same-node, Spot, best-of-lines, set-line, split-path, booked-path, booked-at}
+use Rattle.paths.specs.Rules.{row-of, same-node, Spot, best-of-lines, set-line, split-path, booked-path, booked-at}
 use Rattle.tree.proofs.Checks.{range-positive, range-at-most, open-refused-1, open-refused-2, open-refused-3, zero-out-of-range, above-out-of-range}
 use Rattle.tree.proofs.Opening.{MayOpen}
 use Rattle.paths.proofs.AllBelow.{all-below-each, all-below-faulty}

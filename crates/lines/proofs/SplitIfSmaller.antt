@@ -9,7 +9,7 @@ use lib.ListN.{length}
 use borrow.Author.Tests.{lt-ltb, le-ltb}
 use Rattle.tree.specs.declared.Row.{Row}
 use Rattle.tree.specs.Record.{row-at, path-at}
-use Rattle.tree.specs.Paths.{row-of, split-lines}
+use Rattle.paths.specs.Rules.{row-of, split-lines}
 use Rattle.paths.proofs.PathRest.{path-from-length}
 use Rattle.bridge.proofs.WrittenPaths.{row-of-path-from}
 use Rattle.lines.specs.Bookable.{split-if-smaller}

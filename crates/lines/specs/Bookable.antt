@@ -10,7 +10,7 @@ use lib.ListN.{length}
 use Rattle.tree.specs.Search.{if_then_else_}
 use Rattle.tree.specs.Refusals.{period-out-of-range}
 use Rattle.tree.specs.Record.{path-at, no-rows, legal}
-use Rattle.tree.specs.Paths.{row-of, Spot, best-of-lines, split-lines}
+use Rattle.paths.specs.Rules.{row-of, Spot, best-of-lines, split-lines}
 use Rattle.booking.specs.Writing.{Splittable}
 
 -- an open of line L with period p that passes the checks 1, 2 and 3 on a legal record

@@ -6,7 +6,7 @@ ghost use Rattle.tree.specs.Calls.{open-line, close-line};
 ghost use mathlib.Core.Option.{none};
 ghost use Rattle.tree.specs.Search.{all-below};
 ghost use Rattle.tree.specs.Record.{path-at, no-rows, legal};
-ghost use Rattle.tree.specs.Paths.{best-of-lines};
+ghost use Rattle.paths.specs.Rules.{best-of-lines};
 ghost use Rattle.candidates.specs.Answers.{spot-in};
 ghost use Rattle.bridge.specs.Rows.{CarriedOut};
 ghost use Rattle.lines.specs.Answers.{open-answer, close-answer};

@@ -9,7 +9,7 @@ use lib.ListN.{length, drop, length-drop}
 use lib.Seq.{drop-drop, getD-drop}
 use Rattle.tree.specs.Tree.{row}
 use Rattle.tree.specs.Record.{row-at, path-at}
-use Rattle.tree.specs.Paths.{row-of}
+use Rattle.paths.specs.Rules.{row-of}
 use Rattle.paths.proofs.PathRest.{path-rest, path-rest-start, path-rest-row, path-rest-end, path-length-at-most-11}
 
 module _ (rows : List ℕ) (L : ℕ) where

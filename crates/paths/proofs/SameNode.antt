@@ -11,7 +11,7 @@ use lib.Dec.{eqb}
 use borrow.Author.Tests.{eq-eqb, ne-eqb}
 use Rattle.tree.specs.declared.Row.{Row}
 use Rattle.tree.specs.Record.{row-at, path-at}
-use Rattle.tree.specs.Paths.{same-node}
+use Rattle.paths.specs.Rules.{same-node}
 use Rattle.paths.proofs.PathRest.{zero-or-not, path-rest, path-rest-start, path-rest-row, path-rest-end}
 
 pub record SameWay (rows : List ℕ) (a b l k : ℕ) : Type 0 where

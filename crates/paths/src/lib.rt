@@ -4,7 +4,7 @@ ghost use mathlib.Core.Path.{_≡_};
 ghost use Prim.Native.Nat.{_<_};
 ghost use lib.ListN.{length};
 ghost use Rattle.tree.specs.Record.{row-at, path-at, rest-unused, no-rows, parts, together, legal};
-ghost use Rattle.tree.specs.Paths.{same-node};
+ghost use Rattle.paths.specs.Rules.{same-node};
 ghost use Rattle.paths.specs.Answers.{lookup, rows-checked, path-checked, joins-earlier, line-legal};
 
 // What the lookup of a line finds: the number of rows of an open line's path.

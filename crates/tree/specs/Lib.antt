@@ -13,5 +13,4 @@ pub mod Calls
 pub mod Lists
 pub mod Demand3
 pub mod Record
-pub mod Paths
 pub mod Cases

@@ -12,7 +12,7 @@ use borrow.Fn.PlainCycle.{Measures, is, falls, and}
 use Rattle.paths.proofs.PathRows.{within-path}
 use Rattle.paths.proofs.weight.Reads as weight-reads
 use Rattle.tree.specs.Record.{path-at}
-use Rattle.tree.specs.Paths.{line-under}
+use Rattle.paths.specs.Rules.{line-under}
 use Rattle.asking.specs.Answers.{line-through}
 use Rattle.asking.proofs.Walking.{line-under-within, through-next, weight-above-0, walk-over, walk-idle, walk-to-line, walk-to-node}
 use Rattle.asking.proofs.line_under.Reads as line-under-reads

@@ -4,7 +4,7 @@ use Prim.Native.Nat.{_-_}
 use mathlib.Core.Path.{sym, _∙_}
 use borrow.Author.Needs.{needs}
 use Rattle.tree.specs.Record.{path-at}
-use Rattle.tree.specs.Paths.{line-under}
+use Rattle.paths.specs.Rules.{line-under}
 use Rattle.asking.specs.Answers.{takes-edge}
 use Rattle.asking.proofs.FirstHit.{Missed, missed-none, missed-more, missed-all, first-hit}
 use Rattle.asking.proofs.line_under.Statement.{statement}
