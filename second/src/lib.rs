@@ -7,6 +7,7 @@
 
 pub mod ask;
 pub mod book;
+pub mod list_cases;
 pub mod list_script;
 pub mod lists;
 pub mod long_list;

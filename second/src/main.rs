@@ -4,7 +4,7 @@
 use second::long_list::MOST_ORDERS;
 use second::orders::LONGEST_LIST;
 use second::shapes::Shape;
-use second::{book, list_script, lists, long_list, order_counts, script};
+use second::{book, list_cases, list_script, lists, long_list, order_counts, script};
 use std::io::{self, BufWriter, Read, Write};
 use std::process::ExitCode;
 
@@ -88,7 +88,7 @@ fn run(call: Call) -> io::Result<()> {
             script::write(&script::generated(seed, count, shape), &mut out)?;
         }
         Call::Answers => script::print_answers(&input(u64::MAX)?, &mut out)?,
-        Call::ListCases => list_script::write(&list_script::cases(), &mut out)?,
+        Call::ListCases => list_script::write(&list_cases::cases(), &mut out)?,
         Call::ListScript(seed, count, shape) => {
             list_script::write(&list_script::generated(seed, count, shape), &mut out)?;
         }
