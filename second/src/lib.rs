@@ -7,7 +7,10 @@
 
 pub mod ask;
 pub mod book;
+pub mod list_cases;
+pub mod list_script;
 pub mod lists;
+pub mod long_list;
 pub mod order_counts;
 pub mod orders;
 pub mod random;

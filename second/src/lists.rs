@@ -68,7 +68,7 @@ fn print_list(
 }
 
 /// The rounds asked after a list.
-fn rounds(plan: &Plan, random: &mut Random) -> Vec<u64> {
+pub(crate) fn rounds(plan: &Plan, random: &mut Random) -> Vec<u64> {
     let mut rounds: Vec<u64> = (0..12).collect();
     rounds.extend((1 << 32) - 4..(1 << 32) + 4);
     rounds.extend(u64::MAX - 7..=u64::MAX);

@@ -1,26 +1,36 @@
-//! The commands: `book`, `lists`, `orders`, `script` and `answers`.
+//! The commands: `book`, `lists`, `long-list`, `orders`, `script`, `answers`, `list-script`
+//! and `list-answers`.
 
+use second::long_list::MOST_ORDERS;
 use second::orders::LONGEST_LIST;
 use second::shapes::Shape;
-use second::{book, lists, order_counts, script};
+use second::{book, list_cases, list_script, lists, long_list, order_counts, script};
 use std::io::{self, BufWriter, Read, Write};
 use std::process::ExitCode;
 
 const USAGE: &str = "usage: second book
        second lists SEED COUNT SHAPE
+       second long-list SEED ORDERS SHAPE
        second orders
        second script cases
        second script SEED COUNT SHAPE
        second answers
-SEED and COUNT are decimal, SHAPE is sparse, full, deep or primes";
+       second list-script cases
+       second list-script SEED COUNT SHAPE
+       second list-answers
+SEED, COUNT and ORDERS (at most 21845) are decimal, SHAPE is sparse, full, deep or primes";
 
 enum Call {
     Book,
     Lists(u64, u64, Shape),
+    LongList(u64, usize, Shape),
     Orders,
     Cases,
     Script(u64, u64, Shape),
     Answers,
+    ListCases,
+    ListScript(u64, u64, Shape),
+    ListAnswers,
 }
 
 fn call(arguments: &[String]) -> Option<Call> {
@@ -32,6 +42,11 @@ fn call(arguments: &[String]) -> Option<Call> {
             count.parse().ok()?,
             Shape::named(shape)?,
         )),
+        ["long-list", seed, orders, shape] => Some(Call::LongList(
+            seed.parse().ok()?,
+            orders.parse().ok().filter(|&it| it <= MOST_ORDERS)?,
+            Shape::named(shape)?,
+        )),
         ["orders"] => Some(Call::Orders),
         ["script", "cases"] => Some(Call::Cases),
         ["script", seed, count, shape] => Some(Call::Script(
@@ -40,6 +55,13 @@ fn call(arguments: &[String]) -> Option<Call> {
             Shape::named(shape)?,
         )),
         ["answers"] => Some(Call::Answers),
+        ["list-script", "cases"] => Some(Call::ListCases),
+        ["list-script", seed, count, shape] => Some(Call::ListScript(
+            seed.parse().ok()?,
+            count.parse().ok()?,
+            Shape::named(shape)?,
+        )),
+        ["list-answers"] => Some(Call::ListAnswers),
         _ => None,
     }
 }
@@ -57,12 +79,20 @@ fn run(call: Call) -> io::Result<()> {
         // One byte above the longest list is enough to tell that a list is too long.
         Call::Book => book::print(&input(LONGEST_LIST as u64 + 1)?, &mut out)?,
         Call::Lists(seed, count, shape) => lists::print(seed, count, shape, &mut out)?,
+        Call::LongList(seed, orders, shape) => {
+            out.write_all(&long_list::generate(seed, orders, shape))?;
+        }
         Call::Orders => order_counts::print(&mut out)?,
         Call::Cases => script::write(&script::cases(), &mut out)?,
         Call::Script(seed, count, shape) => {
             script::write(&script::generated(seed, count, shape), &mut out)?;
         }
         Call::Answers => script::print_answers(&input(u64::MAX)?, &mut out)?,
+        Call::ListCases => list_script::write(&list_cases::cases(), &mut out)?,
+        Call::ListScript(seed, count, shape) => {
+            list_script::write(&list_script::generated(seed, count, shape), &mut out)?;
+        }
+        Call::ListAnswers => list_script::print_answers(&input(u64::MAX)?, &mut out)?,
     }
     out.flush()
 }

@@ -1,0 +1,356 @@
+//! Scripts of list calls, and what each call answers: the input and the expected output
+//! of the test program that runs order lists on one plan after another.
+//!
+//! A script is a sequence of steps. A step is a kind, then two numbers of 64 bits, most
+//! significant byte first: 17 bytes. Kinds: 0 begins again with the empty plan (0, 0),
+//! 1 writes a number into the record (place, number), 2 asks for a number of the record
+//! (place, 0), 3 asks for an owner (round, 0), 4 gives bytes (count, 0), 5 runs a list
+//! (length, room). The bytes that are given, 1 to 100,000, follow their step.
+//!
+//! A list is the bytes given last, over and over up to its length, so that a long one
+//! takes little of the script; its length is at most 100,000. The room, at most 70,000,
+//! is how many bytes are lent for the answers. Each lent byte is EE before the call.
+//! The plan that a list leaves is the plan of the next step.
+//!
+//! What is printed, words parted by one space:
+//! `plan`; `write PLACE NUMBER`; `number PLACE NUMBER`, with `-` for a number up to 4,095;
+//! `owner ROUND LINE`, or `idle` for the line; nothing for bytes that are given.
+//! A list prints `list LENGTH ROOM RESULT`; if it was not refused, the two answer bytes of
+//! each order in hexadecimal, 16 orders to a line; then `beyond COUNT BYTES`, where COUNT
+//! says how many of the lent bytes after the answers (of a refused list: of all) are EE,
+//! and BYTES are the first of them, at most 6, in hexadecimal.
+//!
+//! A number that is written is above 4,095, which no weight and no edge is: whatever its
+//! place, the record is then no tree and counts as the empty plan. It stays in the record
+//! until an order is carried out, since a refused one leaves the plan as it was.
+
+use crate::ask::owner;
+use crate::lists;
+use crate::orders::{run, ANSWER_BYTES, ORDER_BYTES};
+use crate::random::Random;
+use crate::refusal::Refusal;
+use crate::shapes::Shape;
+use crate::tree::{Plan, LAST_PERIOD};
+use std::collections::BTreeMap;
+use std::io::{self, Write};
+
+/// Numbers in a record: 64 lines of 11 rows of weight and edge.
+const RECORD_NUMBERS: u64 = 1_408;
+/// Bytes of a step without those that are given.
+const HEAD_BYTES: usize = 17;
+/// The longest list that a script can run, and the most bytes that it can give.
+const LIST_BYTES: usize = 100_000;
+/// The most bytes that are lent.
+pub(crate) const MOST_ROOM: usize = 70_000;
+/// Each lent byte before the call.
+const UNTOUCHED: u8 = 0xee;
+const ANSWERS_IN_A_LINE: usize = 16;
+const BYTES_SHOWN_BEYOND: usize = 6;
+
+#[derive(Clone, Debug, PartialEq, Eq)]
+pub enum Step {
+    Begin,
+    Write { place: u64, number: u64 },
+    Number { place: u64 },
+    Owner { round: u64 },
+    Give(Vec<u8>),
+    List { length: usize, room: usize },
+}
+
+impl Step {
+    fn write(&self, out: &mut impl Write) -> io::Result<()> {
+        let (kind, first, second) = match *self {
+            Step::Begin => (0, 0, 0),
+            Step::Write { place, number } => (1, place, number),
+            Step::Number { place } => (2, place, 0),
+            Step::Owner { round } => (3, round, 0),
+            Step::Give(ref bytes) => (4, bytes.len() as u64, 0),
+            Step::List { length, room } => (5, length as u64, room as u64),
+        };
+        out.write_all(&[kind])?;
+        out.write_all(&first.to_be_bytes())?;
+        out.write_all(&second.to_be_bytes())?;
+        match self {
+            Step::Give(bytes) => out.write_all(bytes),
+            _ => Ok(()),
+        }
+    }
+
+    /// The first step of a script, and the script after it.
+    fn read(script: &[u8]) -> Option<(Step, &[u8])> {
+        let (head, rest) = script.split_first_chunk::<HEAD_BYTES>()?;
+        let number = |from: usize| {
+            head[from..from + 8]
+                .iter()
+                .fold(0, |number, byte| number << 8 | u64::from(*byte))
+        };
+        let (first, second) = (number(1), number(9));
+        let step = match head[0] {
+            0 => Step::Begin,
+            1 => Step::Write {
+                place: first,
+                number: second,
+            },
+            2 => Step::Number { place: first },
+            3 => Step::Owner { round: first },
+            4 => {
+                let count = limited(first, LIST_BYTES).filter(|&count| count > 0)?;
+                let (bytes, rest) = rest.split_at_checked(count)?;
+                return Some((Step::Give(bytes.to_vec()), rest));
+            }
+            5 => Step::List {
+                length: limited(first, LIST_BYTES)?,
+                room: limited(second, MOST_ROOM)?,
+            },
+            _ => return None,
+        };
+        Some((step, rest))
+    }
+}
+
+fn limited(number: u64, most: usize) -> Option<usize> {
+    usize::try_from(number).ok().filter(|&it| it <= most)
+}
+
+/// Writes the steps as a script.
+pub fn write(steps: &[Step], out: &mut impl Write) -> io::Result<()> {
+    steps.iter().try_for_each(|step| step.write(out))
+}
+
+/// A plan, and the numbers in its record that no tree has.
+#[derive(Default)]
+struct Record {
+    plan: Plan,
+    written: BTreeMap<u64, u64>,
+}
+
+/// Carries a script out. A step of an unknown kind, or one that is cut off, ends it.
+pub fn print_answers(script: &[u8], out: &mut impl Write) -> io::Result<()> {
+    let mut record = Record::default();
+    let mut given = vec![0];
+    let mut rest = script;
+    while let Some((step, after)) = Step::read(rest) {
+        match step {
+            Step::Give(bytes) => given = bytes,
+            step => record.print_step(step, &given, out)?,
+        }
+        rest = after;
+    }
+    Ok(())
+}
+
+impl Record {
+    fn print_step(&mut self, step: Step, given: &[u8], out: &mut impl Write) -> io::Result<()> {
+        match step {
+            Step::Begin => {
+                *self = Record::default();
+                writeln!(out, "plan")
+            }
+            Step::Write { place, number } => {
+                assert!(number > LAST_PERIOD, "the record may be a tree");
+                self.plan = Plan::empty();
+                self.written.insert(place, number);
+                writeln!(out, "write {place} {number}")
+            }
+            Step::Number { place } => {
+                let number = self.written.get(&place).map(u64::to_string);
+                writeln!(out, "number {place} {}", number.unwrap_or("-".to_string()))
+            }
+            Step::Owner { round } => {
+                let line = owner(&self.plan, round).map(|line| line.to_string());
+                writeln!(out, "owner {round} {}", line.unwrap_or("idle".to_string()))
+            }
+            Step::Give(_) => Ok(()),
+            Step::List { length, room } => {
+                let list: Vec<u8> = given.iter().copied().cycle().take(length).collect();
+                self.print_list(&list, room, out)
+            }
+        }
+    }
+
+    fn print_list(&mut self, list: &[u8], room: usize, out: &mut impl Write) -> io::Result<()> {
+        let mut lent = vec![UNTOUCHED; room];
+        let result = run(&mut self.plan, list, &mut lent);
+        let answered = match result {
+            Ok(()) => list.len() / ORDER_BYTES * ANSWER_BYTES,
+            Err(_) => 0,
+        };
+        let (answers, beyond) = lent.split_at(answered);
+        if answers.chunks(ANSWER_BYTES).any(carried_out) {
+            self.written.clear();
+        }
+        let number = result.map_or_else(Refusal::number, |()| 0);
+        writeln!(out, "list {} {room} {number}", list.len())?;
+        for line in answers.chunks(ANSWERS_IN_A_LINE * ANSWER_BYTES) {
+            let words: Vec<String> = line.chunks(ANSWER_BYTES).map(hexadecimal).collect();
+            writeln!(out, "{}", words.join(" "))?;
+        }
+        print_beyond(beyond, out)
+    }
+}
+
+/// Result 0, in the first 4 bits (Orders, 4).
+fn carried_out(answer: &[u8]) -> bool {
+    answer[0] >> 4 == 0
+}
+
+fn hexadecimal(bytes: &[u8]) -> String {
+    bytes.iter().map(|byte| format!("{byte:02x}")).collect()
+}
+
+fn print_beyond(beyond: &[u8], out: &mut impl Write) -> io::Result<()> {
+    let untouched = beyond.iter().filter(|&&byte| byte == UNTOUCHED).count();
+    write!(out, "beyond {untouched}")?;
+    for byte in beyond.iter().take(BYTES_SHOWN_BEYOND) {
+        write!(out, " {byte:02x}")?;
+    }
+    writeln!(out)
+}
+
+/// Lists drawn as for `lists`, each on the plan that the one before it left, every fourth
+/// on an empty plan and every sixth on a damaged record. Every third is run too short and
+/// with too little room first. After each list its plan's owners are asked.
+pub fn generated(seed: u64, count: u64, shape: Shape) -> Vec<Step> {
+    let mut random = Random::new(seed);
+    let mut plan = Plan::empty();
+    let mut steps = vec![Step::Begin];
+    for _ in 0..count {
+        if random.below(4) == 0 {
+            plan = Plan::empty();
+            steps.push(Step::Begin);
+        }
+        let place = random.below(RECORD_NUMBERS);
+        if random.below(6) == 0 {
+            plan = Plan::empty();
+            let number = LAST_PERIOD + 1 + random.below(61_440);
+            steps.push(Step::Write { place, number });
+        }
+        let list = lists::generate(shape, &mut random);
+        steps.extend(attempts(&list, &mut random));
+        run(&mut plan, &list, &mut vec![0; list.len()]).expect("the list is short and whole");
+        steps.push(Step::Number { place });
+        steps.extend(owners(lists::rounds(&plan, &mut random)));
+    }
+    steps
+}
+
+/// The list, perhaps after attempts that are refused.
+fn attempts(list: &[u8], random: &mut Random) -> Vec<Step> {
+    let length = list.len();
+    let answers = answer_bytes(length);
+    let room = answers + random.pick(&[0, 0, 1, 2, 5, 200]);
+    let mut steps = Vec::new();
+    if length > 0 {
+        steps.push(Step::Give(list.to_vec()));
+    }
+    if length > 0 && random.below(3) == 0 {
+        let cut = length - 1 - random.below(2) as usize;
+        steps.push(Step::List { length: cut, room });
+        let room = random.below(answers as u64) as usize;
+        steps.push(Step::List { length, room });
+    }
+    steps.push(Step::List { length, room });
+    steps
+}
+
+/// Of a list that is so many bytes long.
+pub(crate) fn answer_bytes(length: usize) -> usize {
+    length / ORDER_BYTES * ANSWER_BYTES
+}
+
+pub(crate) fn owners(rounds: impl IntoIterator<Item = u64>) -> impl Iterator<Item = Step> {
+    rounds.into_iter().map(|round| Step::Owner { round })
+}
+
+#[cfg(test)]
+mod tests {
+    use super::*;
+    use crate::list_cases::cases;
+    use crate::orders::pack;
+
+    fn script(steps: &[Step]) -> Vec<u8> {
+        let mut script = Vec::new();
+        write(steps, &mut script).unwrap();
+        script
+    }
+
+    fn printed(steps: &[Step]) -> String {
+        let mut text = Vec::new();
+        print_answers(&script(steps), &mut text).unwrap();
+        String::from_utf8(text).unwrap()
+    }
+
+    fn read_back(script: &[u8]) -> Vec<Step> {
+        let mut steps = Vec::new();
+        let mut rest = script;
+        while let Some((step, after)) = Step::read(rest) {
+            steps.push(step);
+            rest = after;
+        }
+        steps
+    }
+
+    #[test]
+    fn steps_are_read_back_from_their_bytes() {
+        for steps in [cases(), generated(1, 40, Shape::Sparse)] {
+            assert_eq!(read_back(&script(&steps)), steps);
+        }
+        let whole = script(&[Step::Begin, Step::Give(vec![1, 2, 3])]);
+        for length in HEAD_BYTES..whole.len() {
+            assert_eq!(read_back(&whole[..length]), [Step::Begin]);
+        }
+    }
+
+    #[test]
+    fn steps_outside_the_limits_are_not_read() {
+        let head = |kind: u8, first: u64, second: u64| {
+            let numbers = [first.to_be_bytes(), second.to_be_bytes()].concat();
+            [vec![kind], numbers, vec![0; LIST_BYTES + 1]].concat()
+        };
+        for (kind, first, second) in [
+            (4, 0, 0),
+            (4, 100_001, 0),
+            (5, 100_001, 0),
+            (5, 0, 70_001),
+            (5, 1 << 63, 0),
+            (6, 0, 0),
+        ] {
+            assert_eq!(Step::read(&head(kind, first, second)), None);
+        }
+        assert!(Step::read(&head(5, 100_000, 70_000)).is_some());
+        assert!(Step::read(&head(4, 100_000, 0)).is_some());
+    }
+
+    #[test]
+    fn lists_are_the_given_bytes_over_and_over() {
+        let give = Step::Give(pack(0, 1, 1).unwrap().to_vec());
+        let (length, room) = (51, 40);
+        let text = printed(&[give, Step::List { length, room }]);
+        let expected = format!(
+            "list 51 40 0\n0000{}\n3000\nbeyond 6 ee ee ee ee ee ee\n",
+            " 3000".repeat(15)
+        );
+        assert_eq!(text, expected);
+    }
+
+    /// Answers 0 to 6 without 1, lists refused with 7 and 8, and damage that stays and goes.
+    #[test]
+    fn generated_scripts_bring_every_answer() {
+        for shape in Shape::ALL {
+            let steps = generated(2, 60, shape);
+            let text = printed(&steps);
+            for answer in ["2000", "3000", "4000", "5000", "6000"] {
+                assert!(text.contains(answer), "{shape:?} {answer}");
+            }
+            let lists: Vec<&str> = text.lines().filter(|it| it.starts_with("list")).collect();
+            for result in [" 0", " 7", " 8"] {
+                assert!(lists.iter().any(|it| it.ends_with(result)), "{shape:?}");
+            }
+            let writes = steps.iter().filter(|it| matches!(it, Step::Write { .. }));
+            assert!(writes.count() > 4);
+            assert!(text.contains("\nowner 4294967296 "));
+            let more = generated(2, 70, shape);
+            assert!(more.starts_with(&steps));
+        }
+    }
+}
