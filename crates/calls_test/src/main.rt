@@ -1,18 +1,21 @@
 // A test of the calls of crate plan, against the output of `second answers`: a script of calls is read from standard
 // input, put to one plan after another, and each answer is printed. second/src/script.rs says the formats.
-ghost use Prim.Native.Nat.{_+_, _<_, _≤_};
 ghost use Rattle.tree.specs.Record.{treeOf};
 ghost use Rattle.plan.specs.Walker.{WalkedOn};
 use libc::STDIN_FILENO;
-use libc::STDOUT_FILENO;
 use lines::CloseAnswer;
 use lines::OpenAnswer;
-use plan::ask::OwnerAnswer;
 use plan::ask::ShowAnswer;
 use plan::ask::TurnsAnswer;
 use plan::walker::WalkAnswer;
 use plan::walker::Walked;
 use plan::walker::WalkerPlace;
+use test_script::decimal;
+use test_script::first_number;
+use test_script::run_owner;
+use test_script::second_number;
+use test_script::text;
+use test_script::write_number;
 use tree::Period;
 use tree::Plan;
 use tree::Row;
@@ -20,39 +23,12 @@ use tree::Row;
 // More steps than a script has are not read.
 const MOST_STEPS: usize = 1000000;
 
-// The 8 bytes from a place on, as a number, the most significant first.
-fn number(step: &[u8; 17], from: usize) -> u64
-    requires { ⌜ from + 8 ≤ 17 ⌝ }
-{
-    let mut value: u64 = 0;
-    let mut k = 0;
-    while k < 8 {
-        value = value % 72057594037927936 * 256 + wide(step[from + k]);
-        k += 1;
-    }
-    value
-}
-
-fn wide(byte: u8) -> u64
-    ensures { λ r. ⌜ r < 256 ⌝ }
-{
-    byte as u64
-}
-
 // A number too large for a period is out of range, and stays so.
 fn period_of(asked: u64) -> Period {
     if asked < 65536 {
         return Period(asked as u16);
     }
     Period(65535)
-}
-
-fn text(words: &[u8]) {
-    io::write_all(STDOUT_FILENO, words);
-}
-
-fn decimal(value: u64) {
-    io::print_decimal(STDOUT_FILENO, value);
 }
 
 fn print_open(line: u64, period: u64, answer: OpenAnswer) {
@@ -97,31 +73,6 @@ fn run_close(current: Plan, line: u64) -> Plan {
     let answer = closing.answer;
     print_close(line, answer);
     closing.plan
-}
-
-// A number of the record, written over.
-fn write_number(current: Plan, place: u64, number: u64) -> Plan {
-    text(b"write ");
-    decimal(place);
-    text(b" ");
-    decimal(number);
-    text(b"\n");
-    let mut damaged = current;
-    if place < 1408 && number < 65536 {
-        damaged.rows[place as usize] = number as u16;
-    }
-    damaged
-}
-
-fn run_owner(current: Plan, round: u64) {
-    text(b"owner ");
-    decimal(round);
-    text(b" ");
-    match plan::ask::owner(current, round) {
-        OwnerAnswer::Line(line) => decimal(line),
-        OwnerAnswer::Idle => text(b"idle"),
-    }
-    text(b"\n");
 }
 
 fn print_row(row: Row) {
@@ -245,8 +196,8 @@ fn run_question(current: Plan, kind: u8, first: u64, second: u64) {
 // One step: a call that changes the plan, the empty plan again, a number written over, or a question.
 fn run_step(current: Plan, step: &[u8; 17]) -> Plan {
     let kind = step[0];
-    let first = number(step, 1);
-    let second = number(step, 9);
+    let first = first_number(step);
+    let second = second_number(step);
     match kind {
         0 => run_open(current, first, second),
         1 => run_close(current, first),

@@ -3,9 +3,13 @@
 ghost use Prim.Native.Nat.{_+_, _*_, _<_, _≤_};
 ghost use lib.ListN.{length};
 use libc::STDIN_FILENO;
-use libc::STDOUT_FILENO;
 use lists::ListAnswer;
-use plan::ask::OwnerAnswer;
+use test_script::decimal;
+use test_script::first_number;
+use test_script::run_owner;
+use test_script::second_number;
+use test_script::text;
+use test_script::write_number;
 use tree::Plan;
 
 // More steps than a script has are not read.
@@ -19,47 +23,6 @@ const MOST_ROOM: usize = 70000;
 
 // Every lent byte before the call: EE.
 const UNTOUCHED: u8 = 238;
-
-// The 8 bytes from a place on, as a number, the most significant first.
-fn number(step: &[u8; 17], from: usize) -> u64
-    requires { ⌜ from + 8 ≤ 17 ⌝ }
-{
-    let mut value: u64 = 0;
-    let mut k = 0;
-    while k < 8 {
-        value = value % 72057594037927936 * 256 + wide(step[from + k]);
-        k += 1;
-    }
-    value
-}
-
-fn wide(byte: u8) -> u64
-    ensures { λ r. ⌜ r < 256 ⌝ }
-{
-    byte as u64
-}
-
-fn text(words: &[u8]) {
-    io::write_all(STDOUT_FILENO, words);
-}
-
-fn decimal(value: u64) {
-    io::print_decimal(STDOUT_FILENO, value);
-}
-
-// A number of the record, written over.
-fn write_number(current: Plan, place: u64, number: u64) -> Plan {
-    text(b"write ");
-    decimal(place);
-    text(b" ");
-    decimal(number);
-    text(b"\n");
-    let mut damaged = current;
-    if place < 1408 && number < 65536 {
-        damaged.rows[place as usize] = number as u16;
-    }
-    damaged
-}
 
 // A number of the record, if no tree can have it.
 fn print_number(current: Plan, place: u64) {
@@ -84,17 +47,6 @@ fn number_at(current: Plan, place: u64) -> u64 {
 
 fn wide_number(number: u16) -> u64 {
     number as u64
-}
-
-fn run_owner(current: Plan, round: u64) {
-    text(b"owner ");
-    decimal(round);
-    text(b" ");
-    match plan::ask::owner(current, round) {
-        OwnerAnswer::Line(line) => decimal(line),
-        OwnerAnswer::Idle => text(b"idle"),
-    }
-    text(b"\n");
 }
 
 fn digit(value: u8) -> u8
@@ -313,8 +265,8 @@ fn run_next(current: Plan, list: &mut [u8]) -> Next {
         };
     }
     let kind = step[0];
-    let first = number(&step, 1);
-    let second = number(&step, 9);
+    let first = first_number(&step);
+    let second = second_number(&step);
     match kind {
         4 => Next {
             more: give(list, within(first, list.len())),

@@ -1,9 +1,9 @@
--- `calls_test::number` is safe and ends: eight bytes are read, and the value is kept below 2^64.
+-- `test_script::number` is safe and ends: eight bytes are read, and the value is kept below 2^64.
 -- Assumes nothing.
 use borrow.Author.Needs.{needs}
 use Prim.Native.Nat.{_-_, _≤_}
-use Rattle.calls_test.proofs.number.Statement.{statement}
-use Rattle.calls_test.proofs.number.Tie as tie
+use Rattle.test_script.proofs.number.Statement.{statement}
+use Rattle.test_script.proofs.number.Tie as tie
 
 abbrev Inv-loop : tie.InvT-loop
 Inv-loop step from value₀ k₀ value k = k ≤ 8
