@@ -16,7 +16,8 @@ use Rattle.tree.specs.Tree.{row}
 use Rattle.tree.specs.Asking.{rows-11}
 use Rattle.tree.specs.Record.{row-at, path-at, unused, rest-unused}
 use Rattle.paths.specs.Rules.{row-of}
-use Rattle.paths.proofs.AllBelow.{all-below-each, both-true}
+use Rattle.tree.proofs.Searching.{all-below-at}
+use Rattle.paths.proofs.AllBelow.{both-true}
 use Rattle.paths.proofs.PathRows.{row-in-path}
 
 rows-11-length : (rs : List Row) → length (rows-11 rs) ≡ 11
@@ -46,7 +47,7 @@ module _ (rows : List ℕ) (L : ℕ) (rest : rest-unused rows L ≡ true) where
   row-after : (i : ℕ) → i < 11 → length (path-at rows L) ≤ i → row-at rows L i ≡ row 0 0
   unfolding rest-unused
   row-after i below past =
-      let right = all-below-each 11 (λ k. ltb k (length (path-at rows L)) || unused (row-at rows L k)) rest i below in
+      let right = all-below-at 11 (λ k. ltb k (length (path-at rows L)) || unused (row-at rows L k)) rest i below in
       unused-row (row-at rows L i) (rw (le-ltb i (length (path-at rows L)) past) at right)
 
   record-row : (i : ℕ) → i < 11 → getD (rows-11 (path-at rows L)) i (row 0 0) ≡ row-at rows L i

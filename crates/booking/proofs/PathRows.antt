@@ -14,7 +14,8 @@ use Rattle.tree.specs.Search.{if_then_else_}
 use Rattle.tree.specs.Tree.{row}
 use Rattle.tree.specs.Record.{row-at, path-from, path-at, unused, rest-unused}
 use Rattle.paths.specs.Rules.{row-of}
-use Rattle.paths.proofs.AllBelow.{all-below-each, all-below-all, both-true}
+use Rattle.tree.proofs.Searching.{all-below-at, all-below-each}
+use Rattle.paths.proofs.AllBelow.{both-true}
 use Rattle.paths.proofs.UnusedRows.{row-right}
 
 module _ (rows : List ℕ) (L : ℕ) where
@@ -60,7 +61,7 @@ module _ (rows : List ℕ) (L : ℕ) where
   line-row rest k h = go (decLt k (length (path-at rows L)))
     where
       right : row-right rows L k ≡ true
-      right = all-below-each 11 (row-right rows L) rest k h
+      right = all-below-at 11 (row-right rows L) rest k h
 
       go : Dec (k < length (path-at rows L)) → row-at rows L k ≡ row-of k (path-at rows L)
       go (yes within) = sym (path-row k within)
@@ -80,4 +81,4 @@ module _ (a b : List ℕ) (L : ℕ) (same : (k : ℕ) → k < 11 → row-at a L 
 
   pub rest-unused-same : rest-unused a L ≡ true → rest-unused b L ≡ true
   unfolding rest-unused
-  rest-unused-same h = all-below-all 11 (row-right b L) (λ k below. rw (← path-same, ← same k below) (all-below-each 11 (row-right a L) h k below))
+  rest-unused-same h = all-below-each 11 (row-right b L) (λ k below. rw (← path-same, ← same k below) (all-below-at 11 (row-right a L) h k below))

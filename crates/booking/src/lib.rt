@@ -11,20 +11,7 @@ ghost use Rattle.booking.specs.Writing.{set-row, SplittableOnLine, Split
 use paths::edge;
 use paths::same_node;
 use paths::weight;
-
-// How many numbers a record has.
-fn count(numbers: &[u16]) -> usize
-    ensures { λ r. ⌜ r ≡ length (now (numbers .entry)) ⌝ }
-{
-    numbers.len()
-}
-
-// The record has all its numbers. The call leaves no code: a proof learns from it what the array's type says.
-fn whole(rows: &[u16; 1408])
-    ensures { λ _. ⌜ length (now (rows .entry)) ≡ 1408 ⌝ }
-{
-    count(rows);
-}
+use paths::whole;
 
 // Row k of a line becomes (w, e).
 fn put_row(rows: &mut [u16; 1408], line: usize, k: usize, w: u16, e: u16)

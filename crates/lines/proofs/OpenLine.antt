@@ -17,7 +17,8 @@ use Rattle.tree.specs.Record.{path-at, no-rows, legal}
 use Rattle.paths.specs.Rules.{row-of, same-node, Spot, best-of-lines, set-line, split-path, booked-path, booked-at}
 use Rattle.tree.proofs.Checks.{range-positive, range-at-most, open-refused-1, open-refused-2, open-refused-3, zero-out-of-range, above-out-of-range}
 use Rattle.tree.proofs.Opening.{MayOpen}
-use Rattle.paths.proofs.AllBelow.{all-below-each, all-below-faulty}
+use Rattle.tree.proofs.Searching.{all-below-at}
+use Rattle.paths.proofs.AllBelow.{all-below-faulty}
 use Rattle.paths.proofs.LegalLines.{legal-rest-unused}
 use Rattle.booking.specs.Writing.{Placeable}
 use Rattle.bridge.specs.Rows.{tree-of, CarriedOut}
@@ -61,7 +62,7 @@ module _ (rows : List ℕ) (L p : ℕ) (ready : Bookable rows L p) (long : lengt
   unfolding AllClosed
   open-first none-open =
       open-first-on rows (ready .is-legal) long L p (ready .number) (ready .inside) (ready .absent) (range-positive p (ready .inside))
-      (all-below-each 64 _ none-open)
+      (all-below-at 64 _ none-open)
 
 -- At the chosen candidate
 

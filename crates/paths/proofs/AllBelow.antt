@@ -1,4 +1,4 @@
--- Laws of `all-below` (crate tree, specs/Search.antt), and the invariant of a loop that tests one number after the other.
+-- Further laws of `all-below` (crate tree, specs/Search.antt), and the invariant of a loop that tests one number after the other.
 -- Assumes nothing.
 use Prim.Native.Nat.{ℕ, _+_, _<_, _≤_, zero-le}
 use native.Mathlib.Omega.{arith}
@@ -9,15 +9,7 @@ use mathlib.Core.Bool.{Bool, true, false, not, _&&_}
 use borrow.Author.Tests.{not-true, not-false}
 use borrow.Author.Count.{below-none, below-more}
 use Rattle.tree.specs.Search.{all-below}
-use Rattle.tree.proofs.Searching.{some-below-true, some-below-false, some-below-at, some-below-none}
-
-pub all-below-each : (n : ℕ) (test : ℕ → Bool) → all-below n test ≡ true → (i : ℕ) → i < n → test i ≡ true
-unfolding all-below
-all-below-each n test h i below = not-false (test i) (some-below-false n (λ j. not (test j)) (not-true _ h) i below)
-
-pub all-below-all : (n : ℕ) (test : ℕ → Bool) → ((i : ℕ) → i < n → test i ≡ true) → all-below n test ≡ true
-unfolding all-below
-all-below-all n test h = ap not (some-below-none n (λ j. not (test j)) (λ i below. ap not (h i below)))
+use Rattle.tree.proofs.Searching.{some-below-true, some-below-at, all-below-at, all-below-each}
 
 pub all-below-fault : (n : ℕ) (test : ℕ → Bool) (i : ℕ) → i < n → test i ≡ false → all-below n test ≡ false
 unfolding all-below
@@ -52,8 +44,8 @@ all-below-and n f g = go (all-below n (λ i. f i && g i)) refl
 
     go : (b : Bool) → all-below n (λ i. f i && g i) ≡ b → (all-below n f && all-below n g) ≡ all-below n (λ i. f i && g i)
     go true e =
-        let first = all-below-all n f (λ i below. both-true (f i) (g i) (all-below-each n _ e i below) .0) in
-        let second = all-below-all n g (λ i below. both-true (f i) (g i) (all-below-each n _ e i below) .1) in
+        let first = all-below-each n f (λ i below. both-true (f i) (g i) (all-below-at n _ e i below) .0) in
+        let second = all-below-each n g (λ i below. both-true (f i) (g i) (all-below-at n _ e i below) .1) in
         rw (first, second, e)
     go false e =
         let x = all-below-faulty n (λ i. f i && g i) e in
@@ -75,4 +67,4 @@ module _ {n : ℕ} {test : ℕ → Bool} {k : ℕ} (tested : Tested n test k) wh
   tested-fault below h = all-below-fault n test k below h
 
   pub tested-all : n ≤ k → all-below n test ≡ true
-  tested-all past = all-below-all n test (λ i below. tested .passed i (lt-of-lt-of-le below past))
+  tested-all past = all-below-each n test (λ i below. tested .passed i (lt-of-lt-of-le below past))

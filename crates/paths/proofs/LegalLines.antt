@@ -11,7 +11,8 @@ use Rattle.tree.specs.Search.{if_then_else_, all-below}
 use Rattle.tree.specs.Record.{path-at, path-in-range, rest-unused, no-rows, parts, together, legal}
 use Rattle.paths.specs.declared.Checked.the-variants.{Rows, Fault}
 use Rattle.paths.specs.Answers.{path-checked, joins-earlier, line-legal}
-use Rattle.paths.proofs.AllBelow.{all-below-each, all-below-all, all-below-and, both-true}
+use Rattle.tree.proofs.Searching.{all-below-at, all-below-each}
+use Rattle.paths.proofs.AllBelow.{all-below-and, both-true}
 
 -- The record is a tree exactly where each line is right, by itself and beside the earlier ones.
 pub legal-by-lines : (rows : List ℕ) → legal rows ≡ all-below 64 (line-legal rows)
@@ -21,7 +22,7 @@ legal-by-lines rows = all-below-and 64 (λ L. path-in-range (path-at rows L) && 
 module _ (rows : List ℕ) (is-legal : legal rows ≡ true) (L : ℕ) (below : L < 64) where
   by-itself-and-beside : (path-in-range (path-at rows L) && rest-unused rows L ≡ true) × (joins-earlier rows L ≡ true)
   unfolding line-legal
-  by-itself-and-beside = both-true _ _ (all-below-each 64 (line-legal rows) (sym (legal-by-lines rows) ∙ is-legal) L below)
+  by-itself-and-beside = both-true _ _ (all-below-at 64 (line-legal rows) (sym (legal-by-lines rows) ∙ is-legal) L below)
 
   pub legal-in-range : path-in-range (path-at rows L) ≡ true
   legal-in-range = both-true (path-in-range (path-at rows L)) (rest-unused rows L) (by-itself-and-beside .0) .0
@@ -31,7 +32,7 @@ module _ (rows : List ℕ) (is-legal : legal rows ≡ true) (L : ℕ) (below : L
 
   pub legal-together : (M : ℕ) → M < L → together (path-at rows M) (path-at rows L) ≡ true
   unfolding joins-earlier
-  legal-together M earlier = all-below-each L (λ J. together (path-at rows J) (path-at rows L)) (by-itself-and-beside .1) M earlier
+  legal-together M earlier = all-below-at L (λ J. together (path-at rows J) (path-at rows L)) (by-itself-and-beside .1) M earlier
 
 -- Two lines together
 
@@ -54,7 +55,7 @@ goes-with rows L M = together (path-at rows M) (path-at rows L)
 -- a closed line goes together with every line
 pub closed-joins : (rows : List ℕ) (L : ℕ) → no-rows (path-at rows L) ≡ true → joins-earlier rows L ≡ true
 unfolding joins-earlier
-closed-joins rows L h = all-below-all L _ (λ M below. together-closed (path-at rows M) (path-at rows L) h)
+closed-joins rows L h = all-below-each L _ (λ M below. together-closed (path-at rows M) (path-at rows L) h)
 
 -- One line
 
