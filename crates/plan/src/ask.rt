@@ -60,14 +60,14 @@ pub fn owner(plan: Plan, round: u64) -> OwnerAnswer
 }
 
 // The lookup of a line in a record that need not be a tree: the empty plan has no line.
-fn find_line(rows: &[u16; 1408], line: usize) -> Found
+fn find_line(numbers: &[u16; 1408], line: usize) -> Found
     requires { ⌜ line < 64 ⌝ }
-    ensures { λ r. ⌜ r ≡ line-found (now (rows .entry)) line ⌝ }
+    ensures { λ r. ⌜ r ≡ line-found (now (numbers .entry)) line ⌝ }
 {
-    if !paths::legal(rows) {
+    if !paths::legal(numbers) {
         return Found::Nothing;
     }
-    paths::find(rows, line)
+    paths::find(numbers, line)
 }
 
 // What a refused show gives.
