@@ -14,6 +14,7 @@ pub mod long_list;
 pub mod order_counts;
 pub mod orders;
 pub mod random;
+pub mod record;
 pub mod refusal;
 pub mod script;
 pub mod shapes;

@@ -15,21 +15,19 @@
 //! `walk NEXT OWNED ANSWER NEXT OWNED`, the answer a line, `idle` or `refused 9`, from the
 //! walker by value, then `lent` and the same from the walker on a lent place.
 //!
-//! A number that is written is above 4,095, which no weight and no edge is: whatever its
-//! place, the record is then no tree and counts as the empty plan.
+//! A number that is written may leave the record a tree, the same or another, or make it
+//! none, which counts as the empty plan: `record.rs` says which.
 
 use crate::ask::{owner, show, turns, Shown};
 use crate::lists;
 use crate::orders::{read, Order, ORDER_BYTES};
 use crate::random::Random;
+use crate::record::{Record, RECORD_NUMBERS};
 use crate::refusal::Refusal;
 use crate::shapes::Shape;
 use crate::tree::{Plan, Start, LAST_PERIOD};
 use crate::walker::{walk, walk_lent, Answer, Place};
 use std::io::{self, Write};
-
-/// Numbers in a record: 64 lines of 11 rows of weight and edge.
-const RECORD_NUMBERS: u64 = 1_408;
 
 /// Bytes of one step.
 pub const STEP_BYTES: usize = 17;
@@ -39,7 +37,7 @@ pub enum Step {
     Open(u64, u64),
     Close(u64),
     Begin,
-    Write(u64, u64),
+    Write(u64, u16),
     Owner(u64),
     Show(u64),
     Turns(u64, u32),
@@ -52,7 +50,7 @@ impl Step {
             Step::Open(line, period) => (0, line, period),
             Step::Close(line) => (1, line, 0),
             Step::Begin => (2, 0, 0),
-            Step::Write(place, number) => (3, place, number),
+            Step::Write(place, number) => (3, place, number.into()),
             Step::Owner(round) => (4, round, 0),
             Step::Show(line) => (5, line, 0),
             Step::Turns(line, rounds) => (6, line, rounds.into()),
@@ -75,7 +73,7 @@ impl Step {
             0 => Some(Step::Open(first, second)),
             1 => Some(Step::Close(first)),
             2 => Some(Step::Begin),
-            3 => Some(Step::Write(first, second)),
+            3 => Some(Step::Write(first, u16::try_from(second).ok()?)),
             4 => Some(Step::Owner(first)),
             5 => Some(Step::Show(first)),
             6 => Some(Step::Turns(first, u32::try_from(second).ok()?)),
@@ -130,7 +128,7 @@ fn border_walks() -> Vec<Step> {
     let borders = [0, 1, (1 << 32) - 1, 1 << 32, u64::MAX - 1, u64::MAX];
     let walks = borders.map(|next| borders.map(|owned| Step::Walk(Place { next, owned })));
     let walks = walks.concat();
-    [(1, 0, 4_096), (2, RECORD_NUMBERS - 1, 65_535)]
+    [(1, 0, 4_096), (2, RECORD_NUMBERS as u64 - 1, 65_535)]
         .into_iter()
         .flat_map(|(period, place, number)| {
             let begins = vec![Step::Begin, Step::Open(7, period)];
@@ -141,29 +139,58 @@ fn border_walks() -> Vec<Step> {
 }
 
 /// Opens and closes drawn as for `lists`, every eighth with a line or a period that no
-/// order can hold. Each list's plan is then asked, damaged, asked again, and given calls
-/// that are refused and an open that is not.
+/// order can hold. Each list's plan is then asked and, three times over, has a number
+/// written over, is asked again, and is given calls that change it and one that is refused.
 pub fn generated(seed: u64, count: u64, shape: Shape) -> Vec<Step> {
     let mut random = Random::new(seed);
     let mut steps = Vec::new();
     for _ in 0..count {
+        let mut held = Held::empty();
         steps.push(Step::Begin);
         for order in lists::generate(shape, &mut random).chunks_exact(ORDER_BYTES) {
-            steps.extend(step_of([order[0], order[1], order[2]], &mut random));
+            let step = step_of([order[0], order[1], order[2]], &mut random);
+            held.change_by(step);
+            steps.extend(step);
         }
         steps.extend(questions(18, &mut random));
-        steps.push(Step::Write(
-            random.below(RECORD_NUMBERS),
-            4_096 + random.below(61_440),
-        ));
-        steps.extend(questions(2, &mut random));
-        steps.push(Step::Close(random.below(64)));
-        steps.push(Step::Open(random.below(64), 0));
-        steps.extend(questions(2, &mut random));
-        steps.push(Step::Open(random.below(64), 1 + random.below(4_095)));
-        steps.extend(questions(2, &mut random));
+        for _ in 0..3 {
+            let changes = [
+                drawn_write(&held.record, &mut random),
+                Step::Close(random.below(64)),
+                Step::Open(random.below(64), 0),
+                Step::Open(random.below(64), 1 + random.below(4_095)),
+            ];
+            for step in changes {
+                held.change_by(Some(step));
+                steps.push(step);
+                steps.extend(questions(1, &mut random));
+            }
+        }
     }
     steps
+}
+
+/// A number that no tree has, one in range anywhere, or another edge or weight in a row
+/// that is in use.
+fn drawn_write(record: &Record, random: &mut Random) -> Step {
+    let used: Vec<usize> = (0..RECORD_NUMBERS)
+        .step_by(2)
+        .filter(|&place| record.number(place) != 0)
+        .collect();
+    let anywhere = random.below(RECORD_NUMBERS as u64);
+    let kind = random.below(5);
+    if kind == 0 {
+        return Step::Write(anywhere, random.pick(&[4_096, 65_535]));
+    }
+    if kind == 1 || used.is_empty() {
+        return Step::Write(anywhere, random.below(LAST_PERIOD + 1) as u16);
+    }
+    let place = random.pick(&used);
+    let weight = record.number(place);
+    if kind == 2 {
+        return Step::Write(place as u64, random.below(2 * u64::from(weight)) as u16);
+    }
+    Step::Write(place as u64 + 1, random.below(u64::from(weight)) as u16)
 }
 
 /// Owner, show, turns and walks, at rounds near 0, 2^32 and 2^64.
@@ -212,35 +239,83 @@ pub fn write(steps: &[Step], out: &mut impl Write) -> io::Result<()> {
 /// Carries a script out, step by step. A step of an unknown kind, and bytes after the last
 /// whole step, end it.
 pub fn print_answers(script: &[u8], out: &mut impl Write) -> io::Result<()> {
-    let mut plan = Plan::empty();
+    let mut held = Held::empty();
     for bytes in script.chunks_exact(STEP_BYTES) {
         let Some(step) = bytes.try_into().ok().and_then(Step::of) else {
             break;
         };
-        print_step(&mut plan, step, out)?;
+        held.print_step(step, out)?;
     }
     Ok(())
 }
 
-fn print_step(plan: &mut Plan, step: Step, out: &mut impl Write) -> io::Result<()> {
+/// What a script works on: the record, and the plan that it is.
+struct Held {
+    record: Record,
+    plan: Plan,
+}
+
+impl Held {
+    fn empty() -> Held {
+        Held {
+            record: Record::of(&Plan::empty()),
+            plan: Plan::empty(),
+        }
+    }
+
+    fn open(&mut self, line: u64, period: u64) -> Result<Start, Refusal> {
+        let start = self.plan.open(line, period)?;
+        self.record = Record::of(&self.plan);
+        Ok(start)
+    }
+
+    fn close(&mut self, line: u64) -> Result<(), Refusal> {
+        self.plan.close(line)?;
+        self.record = Record::of(&self.plan);
+        Ok(())
+    }
+
+    fn write(&mut self, place: u64, number: u16) {
+        self.record.write(place as usize, number);
+        self.plan = self.record.plan();
+    }
+
+    /// A step that changes the plan, without its answer.
+    fn change_by(&mut self, step: Option<Step>) {
+        match step {
+            Some(Step::Open(line, period)) => drop(self.open(line, period)),
+            Some(Step::Close(line)) => drop(self.close(line)),
+            Some(Step::Write(place, number)) => self.write(place, number),
+            _ => {}
+        }
+    }
+
+    fn print_step(&mut self, step: Step, out: &mut impl Write) -> io::Result<()> {
+        match step {
+            Step::Open(line, period) => {
+                let answer = opened(self.open(line, period));
+                writeln!(out, "open {line} {period} {answer}")
+            }
+            Step::Close(line) => {
+                let result = number(self.close(line));
+                writeln!(out, "close {line} {result}")
+            }
+            Step::Begin => {
+                *self = Held::empty();
+                writeln!(out, "plan")
+            }
+            Step::Write(place, number) => {
+                self.write(place, number);
+                writeln!(out, "write {place} {number}")
+            }
+            question => print_question(&self.plan, question, out),
+        }
+    }
+}
+
+/// A step that asks the plan; the others print nothing.
+fn print_question(plan: &Plan, step: Step, out: &mut impl Write) -> io::Result<()> {
     match step {
-        Step::Open(line, period) => {
-            let answer = opened(plan.open(line, period));
-            writeln!(out, "open {line} {period} {answer}")
-        }
-        Step::Close(line) => {
-            let result = number(plan.close(line));
-            writeln!(out, "close {line} {result}")
-        }
-        Step::Begin => {
-            *plan = Plan::empty();
-            writeln!(out, "plan")
-        }
-        Step::Write(place, number) => {
-            assert!(number > LAST_PERIOD, "the record may be a tree");
-            *plan = Plan::empty();
-            writeln!(out, "write {place} {number}")
-        }
         Step::Owner(round) => writeln!(out, "owner {round} {}", owned(owner(plan, round))),
         Step::Show(line) => writeln!(out, "show {line} {}", shown(show(plan, line))),
         Step::Turns(line, rounds) => {
@@ -248,6 +323,7 @@ fn print_step(plan: &mut Plan, step: Step, out: &mut impl Write) -> io::Result<(
             writeln!(out, "turns {line} {rounds} {answer}")
         }
         Step::Walk(place) => print_walks(plan, place, out),
+        _ => Ok(()),
     }
 }
 
@@ -399,5 +475,28 @@ mod tests {
                 .lines()
                 .any(|line| line.starts_with("close") && line.ends_with(answer)));
         }
+    }
+
+    /// After a number is written the record is no tree, the same tree, or another one.
+    #[test]
+    fn generated_writes_leave_every_kind_of_record() {
+        let mut seen = [0; 3];
+        let mut held = Held::empty();
+        for step in generated(1, 40, Shape::named("full").unwrap()) {
+            let before = held.plan.clone();
+            match step {
+                Step::Begin => held = Held::empty(),
+                step => held.change_by(Some(step)),
+            }
+            if matches!(step, Step::Write(..)) {
+                let kind = match held.record.tree() {
+                    None => 0,
+                    Some(plan) if plan == before => 1,
+                    Some(_) => 2,
+                };
+                seen[kind] += 1;
+            }
+        }
+        assert!(seen.iter().all(|&count| count > 0), "{seen:?}");
     }
 }
