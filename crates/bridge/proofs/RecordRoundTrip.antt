@@ -150,3 +150,9 @@ tree-has-record plan is-legal long =
     rows-by-blocks (recordOf (treeOf plan) .rows) (plan .rows) (record-length (treeOf plan)) long
     (λ L below. block-of-record (treeOf plan) L below ∙ sym (block-of-tree plan L is-legal long below)) in
     λ i. record { rows = same i }
+
+-- so equal trees are equal records
+pub same-tree-same-record : (plan other : Plan) → legal (plan .rows) ≡ true → legal (other .rows) ≡ true → length (plan .rows) ≡ 1408 → length (other .rows) ≡ 1408 →
+    treeOf plan ≡ treeOf other → plan ≡ other
+same-tree-same-record plan other legal-one legal-other long-one long-other same =
+    sym (tree-has-record plan legal-one long-one) ∙ ap recordOf same ∙ tree-has-record other legal-other long-other
