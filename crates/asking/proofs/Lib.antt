@@ -1,5 +1,3 @@
--- A search from 0 upward
-pub mod FirstHit
 -- The walk
 pub mod EdgeTaken
 pub mod PathEnd

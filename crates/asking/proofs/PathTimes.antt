@@ -3,57 +3,23 @@
 use Prim.Native.Nat.{ℕ, _+_, _*_, _<_, _≤_, zero-le}
 use native.Mathlib.Omega.{arith}
 use native.Mathlib.Nat.{mul-assoc, mul-one, one-mul, mul-le-mul-left, add-assoc}
-use mathlib.Core.Path.{_≡_, refl, sym, _∙_}
-use mathlib.Core.Bool.{Bool, true, false, _||_, false≢true}
-use mathlib.Core.List.{List, [], _∷_}
-use lib.Dec.{eqb, ltb, leb}
+use mathlib.Core.Path.{_≡_, sym, _∙_}
+use mathlib.Core.Bool.{true}
+use mathlib.Core.List.{List}
 use lib.ListN.{length, drop-of-length-le}
-use borrow.Author.Tests.{eqb-true, ltb-true, leb-true}
-use Rattle.tree.specs.declared.Row.{Row}
 use Rattle.tree.specs.Tree.{product, sum-from, sum}
-use Rattle.tree.specs.Record.{row-at, path-at, rows-in-range, alone, path-in-range, legal}
-use Rattle.tree.proofs.Digits.{digits-below}
-use Rattle.tree.proofs.Standing.{sum-row}
-use Rattle.paths.proofs.AllBelow.{both-true}
+use Rattle.tree.specs.Record.{row-at, path-at, legal}
+use Rattle.paths.proofs.RangeLaws.{path-edges-below, period-in-range, sum-below}
 use Rattle.paths.proofs.LegalLines.{legal-in-range}
 use Rattle.paths.proofs.PathRest.{path-rest, path-rest-start, path-rest-product}
 use Rattle.paths.proofs.PathRows.{row-left, drop-path}
 
--- A start is below its period
-
-rows-below : (rs : List Row) → rows-in-range rs ≡ true → sum rs < product rs
-unfolding rows-in-range product sum sum-from
-rows-below [] h = omega arith
-rows-below (r ∷ rs) h =
-    let range = both-true (leb 2 (r .weight)) _ h .1 in
-    let parts = both-true (ltb (r .edge) (r .weight)) _ range in
-    rw (sum-row r rs) (digits-below (r .weight) (product rs) (r .edge) (sum rs) (ltb-true _ _ (parts .0)) (rows-below rs (parts .1)))
-
-alone-below : (rs : List Row) → alone rs ≡ true → sum rs < product rs
-unfolding alone product sum sum-from
-alone-below [] h = absurd (false≢true h)
-alone-below (r ∷ []) h =
-    let parts = both-true (eqb (r .weight) 1) (eqb (r .edge) 0) h in
-    let one = eqb-true (r .weight) 1 (parts .0) in
-    let none = eqb-true (r .edge) 0 (parts .1) in
-    omega arith
-alone-below (r ∷ s ∷ rs) h = absurd (false≢true h)
-
-sum-below-product : (rs : List Row) → path-in-range rs ≡ true → sum rs < product rs
-unfolding path-in-range
-sum-below-product rs h = go (alone rs) refl (both-true (alone rs || rows-in-range rs) _ h .0)
-  where
-    go : (b : Bool) → alone rs ≡ b → (b || rows-in-range rs) ≡ true → sum rs < product rs
-    go true e k = alone-below rs e
-    go false e k = rows-below rs k
-
 -- both fit: the period is at most 4,095
 times-small : (rows : List ℕ) (L : ℕ) → legal rows ≡ true → L < 64 → (product (path-at rows L) ≤ 4095) × (sum (path-at rows L) ≤ 4095)
-unfolding path-in-range
 times-small rows L is-legal below =
     let range = legal-in-range rows is-legal L below in
-    let small = leb-true _ _ (both-true (alone (path-at rows L) || rows-in-range (path-at rows L)) (leb (product (path-at rows L)) 4095) range .1) in
-    let less = sum-below-product (path-at rows L) range in
+    let small = period-in-range (path-at rows L) range in
+    let less = sum-below (path-at rows L) (path-edges-below (path-at rows L) range) in
     (small, omega arith)
 
 -- The loop

@@ -4,20 +4,21 @@ use Prim.Native.Nat.{ℕ, suc, _+_, _-_, _/_, _%_, _<_}
 use native.Mathlib.Omega.{arith}
 use native.Mathlib.Numerals.{add-one}
 use mathlib.Core.Path.{_≡_, sym, _∙_, ap}
-use mathlib.Core.Bool.{true, false, true≢false}
-use mathlib.Core.List.{List, [], _∷_}
+use mathlib.Core.Bool.{true, false}
+use mathlib.Core.List.{List}
 use mathlib.Core.Option.{Option, none, some}
 use lib.Dec.{eqb}
 use lib.ListN.{length}
 use borrow.Author.Tests.{eqb-false, not-true}
 use Rattle.tree.specs.declared.Row.{Row}
-use Rattle.tree.specs.Record.{row-at, path-at, no-rows}
+use Rattle.tree.specs.Record.{row-at, path-at}
 use Rattle.paths.specs.Rules.{Family, row-of, same-node, line-under, walk-on-paths, owner-on-paths}
 use Rattle.tree.proofs.Searching.{smallest-some}
 use Rattle.paths.proofs.AllBelow.{both-true}
 use Rattle.paths.proofs.PathRows.{row-in-path, weight-in-path}
+use Rattle.paths.proofs.SameNode.{same-node-goes-on}
+use Rattle.paths.proofs.RowLaws.{some-rows}
 use Rattle.asking.specs.Answers.{first-open}
-use Rattle.asking.proofs.EdgeTaken.{same-node-within}
 
 -- line N was found under edge e of the node at level l of path ps
 module _ (family : Family) (ps : List Row) (l e N : ℕ) (under : line-under family ps l e ≡ some N) where
@@ -26,7 +27,7 @@ module _ (family : Family) (ps : List Row) (l e N : ℕ) (under : line-under fam
   unfolding line-under
   line-under-within =
       let found = smallest-some 64 _ N under in
-      (found .in-range, same-node-within l ps (family N) (both-true (same-node l ps (family N)) (eqb (row-of l (family N) .edge) e) (found .passes) .0))
+      (found .in-range, same-node-goes-on l ps (family N) (both-true (same-node l ps (family N)) (eqb (row-of l (family N) .edge) e) (found .passes) .0) .1)
 
   -- where the path does not end there, it goes through the next node too
   pub through-next : eqb (length (family N)) (suc l) ≡ false → l + 1 < length (family N)
@@ -70,14 +71,10 @@ module _ (rows : List ℕ) (left M l n : ℕ) (goes-on : left ≡ 0 → ⊥) (be
 
 -- an open line's path has a root
 pub first-open-within : (family : Family) (M : ℕ) → first-open family ≡ some M → (M < 64) × (0 < length (family M))
-unfolding first-open no-rows
+unfolding first-open
 first-open-within family M h =
     let found = smallest-some 64 _ M h in
     (found .in-range, some-rows (family M) (not-true _ (found .passes)))
-  where
-    some-rows : (rs : List Row) → no-rows rs ≡ false → 0 < length rs
-    some-rows [] e = absurd (true≢false e)
-    some-rows (r ∷ rs) e = omega arith
 
 pub owner-idle : (family : Family) (n : ℕ) → first-open family ≡ none → owner-on-paths family n ≡ none
 unfolding owner-on-paths first-open

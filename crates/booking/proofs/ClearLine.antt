@@ -9,8 +9,9 @@ use Rattle.tree.specs.declared.Row.{Row}
 use Rattle.tree.specs.Tree.{row}
 use Rattle.tree.specs.Record.{row-at, path-at}
 use Rattle.paths.specs.Rules.{row-of, set-line}
+use Rattle.paths.proofs.Blocks.{set-line-length}
 use Rattle.booking.specs.Writing.{set-row}
-use Rattle.booking.proofs.SetLine.{set-line-size, set-line-row, set-line-other, set-line-again}
+use Rattle.booking.proofs.SetLine.{set-line-row, set-line-other, set-line-again}
 use Rattle.booking.proofs.PathRows.{path-same}
 use Rattle.booking.proofs.WrittenRows.{Written, written-none, written-next, written-line}
 
@@ -40,7 +41,7 @@ module _ {start rows : List ℕ} {L k : ℕ} (cleared : Cleared start rows L k) 
 
 module _ (start : List ℕ) (size : length start ≡ 1408) (L : ℕ) (below : L < 64) {cleared : List ℕ} (clear : cleared ≡ set-line start L []) where
   pub cleared-size : length cleared ≡ 1408
-  cleared-size = rw clear (set-line-size start size L below [])
+  cleared-size = rw clear (set-line-length start L [] below size)
 
   pub cleared-row : (k : ℕ) → k < 11 → row-at cleared L k ≡ row 0 0
   unfolding row-of

@@ -13,8 +13,8 @@ use Rattle.tree.specs.Search.{if_then_else_}
 use Rattle.tree.specs.Tree.{row}
 use Rattle.tree.specs.Record.{row-at, path-at}
 use Rattle.paths.specs.Rules.{row-of, set-line, booked-path}
+use Rattle.paths.proofs.PathRows.{row-in-path}
 use Rattle.booking.specs.Writing.{set-row, Placeable}
-use Rattle.booking.proofs.PathRows.{path-row}
 use Rattle.booking.proofs.ClearLine.{cleared-size, cleared-row, cleared-keeps-path, set-cleared-line}
 use Rattle.booking.proofs.WrittenRows.{Written, written-none, written-next, written-on-cleared}
 
@@ -62,7 +62,7 @@ module _ {start : List ℕ} {L M l d i q : ℕ} (placeable : Placeable start L M
   row-above k h =
       booked-row-above (take l (path-at start M)) d i q k (omega (arith, above-length))
       ∙ getD-take l (path-at start M) k (row 0 0) h
-      ∙ path-row start M k (omega (arith, placeable .on-path))
+      ∙ row-in-path start M (omega (arith, placeable .on-path))
 
   row-at-level : row-of l (booked-path (take l (path-at start M)) d i q) ≡ row d i
   row-at-level = ap (λ (n : ℕ). row-of n (booked-path (take l (path-at start M)) d i q)) (sym above-length) ∙ booked-row-here (take l (path-at start M)) d i q

@@ -6,28 +6,21 @@ use native.Mathlib.Nat.{le-refl}
 use native.Mathlib.Decide.{ℕ-discrete}
 use native.Mathlib.Numerals.{add-one}
 use mathlib.Core.Path.{_≡_, refl, sym, _∙_, ap}
-use mathlib.Core.Bool.{Bool, true, false, false≢true}
+use mathlib.Core.Bool.{Bool, true, false}
 use mathlib.Core.List.{List, [], _∷_}
-use lib.Dec.{eqb}
 use lib.ListN.{length}
 use Rattle.tree.specs.declared.Row.{Row}
 use Rattle.tree.specs.Search.{if_then_else_}
 use Rattle.tree.specs.Record.{row-at, path-at}
 use Rattle.paths.specs.Rules.{row-of, same-node, set-line, split-path, split-lines}
-use Rattle.paths.proofs.AllBelow.{both-true}
 use Rattle.paths.proofs.PathRest.{path-length-at-most-11}
+use Rattle.paths.proofs.PathRows.{row-in-path, weight-in-path}
+use Rattle.paths.proofs.SameNode.{same-node-goes-on}
+use Rattle.paths.proofs.Blocks.{set-line-length}
 use Rattle.booking.specs.Writing.{SplittableOnLine, Splittable}
-use Rattle.booking.proofs.SetLine.{set-line-size, set-line-row, set-line-other}
-use Rattle.booking.proofs.PathRows.{path-row, path-weight, path-goes-on, path-same, rest-unused-same}
+use Rattle.booking.proofs.SetLine.{set-line-row, set-line-other}
+use Rattle.booking.proofs.PathRows.{path-goes-on, path-same, rest-unused-same}
 use Rattle.booking.proofs.SplitPath.{split-row-above, split-row-at}
-
--- a path through a node at level l has a row there
-same-node-row : (l : ℕ) (ps qs : List Row) → same-node l ps qs ≡ true → l < length qs
-unfolding same-node
-same-node-row l [] qs h = absurd (false≢true h)
-same-node-row l (p ∷ ps) [] h = absurd (false≢true h)
-same-node-row zero (p ∷ ps) (q ∷ qs) h = omega arith
-same-node-row (suc l) (p ∷ ps) (q ∷ qs) h = let later = same-node-row l ps qs (both-true (eqb (p .edge) (q .edge)) (same-node l ps qs) h .1) in omega arith
 
 -- the node hangs on the edges above it alone
 same-node-by-edges : (l : ℕ) (ps os : List Row) → l < length ps → l < length os → ((k : ℕ) → k < l → row-of k ps .edge ≡ row-of k os .edge) → (qs : List Row) → same-node l ps qs ≡ same-node l os qs
@@ -51,16 +44,13 @@ module _ (rows : List ℕ) (size : length rows ≡ 1408) (L l d : ℕ) (below : 
 
   weights : (k : ℕ) → k ≤ l → Dec (k ≡ l) → row-at new L k .weight ≡ 0 → ⊥
   weights k h (yes e) z = omega (arith, weight-here, ap (λ (j : ℕ). row-at new L j .weight) e)
-  weights k h (no other) z = path-weight rows L k (omega arith) (ap (λ (r : Row). r .weight) (sym (row-above k (omega arith) ∙ path-row rows L k (omega arith))) ∙ z)
+  weights k h (no other) z = weight-in-path rows L (omega arith) (ap (λ (r : Row). r .weight) (sym (row-above k (omega arith) ∙ row-in-path rows L (omega arith))) ∙ z)
 
   split-goes-on : l < length (path-at new L)
   split-goes-on = path-goes-on new L l (omega (arith, path-length-at-most-11 rows L)) (λ k h. weights k h (ℕ-discrete k l))
 
   split-keeps-row : (k : ℕ) → k < l → row-of k (path-at new L) ≡ row-of k (path-at rows L)
-  split-keeps-row k h = path-row new L k (omega (arith, split-goes-on)) ∙ row-above k h
-
-pub level-below-11 : {rows : List ℕ} {L l d : ℕ} → Splittable rows L l d → l < 11
-level-below-11 {rows} {L} splittable = omega (arith, path-length-at-most-11 rows L)
+  split-keeps-row k h = row-in-path new L (omega (arith, split-goes-on)) ∙ row-above k h
 
 -- the lines below n are split where they go through the node at level l of line L's path
 pub record SplitBelow (start rows : List ℕ) (L l d n : ℕ) : Type 0 where
@@ -121,7 +111,7 @@ module _ {start rows : List ℕ} {L l d n : ℕ} (split : SplitBelow start rows 
           record {
             line-below-64 = below;
             divisor-above-0 = split .splittable .divisor-above-0;
-            on-path = same-node-row l (path-at rows L) (path-at rows n) (sym read ∙ is-through);
+            on-path = same-node-goes-on l (path-at rows L) (path-at rows n) (sym read ∙ is-through) .1;
             row-left = record {
               short = rw path-kept (left .short);
               rest-is-unused = rest-unused-same start rows n (λ k h. sym (split .not-reached n (le-refl n) k h)) (left .rest-is-unused);
@@ -134,7 +124,7 @@ module _ {start rows : List ℕ} {L l d n : ℕ} (split : SplitBelow start rows 
       split-below-more {new} done = record {
         within = omega arith;
         splittable = split .splittable;
-        size = rw done (set-line-size rows (split .size) n below _);
+        size = rw done (set-line-length rows n _ below (split .size));
         same = rw (add-one, ← test-kept, is-through) (rw (← split .same, ← path-kept) done);
         goes-on = still-goes-on (ℕ-discrete n L);
         way-kept = λ k h. still-kept k h (ℕ-discrete n L) ∙ split .way-kept k h;

@@ -10,8 +10,9 @@ use Rattle.tree.specs.declared.Row.{Row}
 use Rattle.tree.specs.Tree.{row}
 use Rattle.tree.specs.Record.{row-at, path-at}
 use Rattle.paths.specs.Rules.{row-of, set-line, split-path}
+use Rattle.paths.proofs.PathRows.{row-in-path}
+use Rattle.paths.proofs.RowLaws.{line-row}
 use Rattle.booking.specs.Writing.{set-row, SplittableOnLine}
-use Rattle.booking.proofs.PathRows.{path-row, line-row}
 use Rattle.booking.proofs.WrittenRows.{Written, written-none, written-previous, written-line}
 
 -- above the level the rows are as they were
@@ -89,13 +90,13 @@ module _ {start rows : List ℕ} {L l d k : ℕ} (moved : Moved start rows L l d
   -- the loop has come to the level: the two nodes are written where the one stood, of weight w and edge e
   module _ (at-level : k ≤ l + 1) {w e : ℕ} (read-weight : w ≡ row-at start L l .weight) (read-edge : e ≡ row-at start L l .edge) where
     group-row : row (w / d) (e / d) ≡ row-of (l + 1) (split-path l d (path-at start L))
-    group-row = rw (read-weight, read-edge, add-one, split-row-below l d (path-at start L) (moved .splittable .on-path), path-row start L l (moved .splittable .on-path))
+    group-row = rw (read-weight, read-edge, add-one, split-row-below l d (path-at start L) (moved .splittable .on-path), row-in-path start L (moved .splittable .on-path))
 
     node-row : row d (e % d) ≡ row-of l (split-path l d (path-at start L))
-    node-row = rw (read-edge, split-row-at l d (path-at start L) (moved .splittable .on-path), path-row start L l (moved .splittable .on-path))
+    node-row = rw (read-edge, split-row-at l d (path-at start L) (moved .splittable .on-path), row-in-path start L (moved .splittable .on-path))
 
     rows-above : (j : ℕ) → j < l → row-at start L j ≡ row-of j (split-path l d (path-at start L))
-    rows-above j h = sym (split-row-above l d j (path-at start L) h ∙ path-row start L j (omega (arith, moved .splittable .on-path)))
+    rows-above j h = sym (split-row-above l d j (path-at start L) h ∙ row-in-path start L (omega (arith, moved .splittable .on-path)))
 
     pub moved-all : {middle new : List ℕ} → middle ≡ set-row rows L (l + 1) (row (w / d) (e / d)) → new ≡ set-row middle L l (row d (e % d)) → new ≡ set-line start L (split-path l d (path-at start L))
     moved-all put-group put-node =

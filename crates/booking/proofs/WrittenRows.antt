@@ -5,11 +5,12 @@ use native.Mathlib.Omega.{arith}
 use native.Mathlib.Decide.{ℕ-discrete, decLt}
 use mathlib.Core.Path.{_≡_, refl, sym, _∙_, ap}
 use mathlib.Core.List.{List}
-use lib.ListN.{length, List·getD-eq-default}
+use lib.ListN.{length}
 use Rattle.tree.specs.declared.Row.{Row}
 use Rattle.tree.specs.Tree.{row}
 use Rattle.tree.specs.Record.{row-at}
 use Rattle.paths.specs.Rules.{row-of, set-line}
+use Rattle.paths.proofs.RowLaws.{row-beyond}
 use Rattle.booking.specs.Writing.{set-row}
 use Rattle.booking.proofs.RecordRows.{set-row-size, set-row-here, set-row-other-line, set-row-other-row}
 use Rattle.booking.proofs.SetLine.{is-set-line}
@@ -85,5 +86,4 @@ module _ {start rows : List ℕ} {L : ℕ} {rs : List Row} {m n : ℕ} (written 
 
 -- where the line was cleared first, the rows after the path need no writing
 pub written-on-cleared : {start rows : List ℕ} {L : ℕ} {rs : List Row} {n : ℕ} → Written start rows L rs 0 n → L < 64 → length start ≡ 1408 → ((k : ℕ) → k < 11 → row-at start L k ≡ row 0 0) → length rs ≤ n → rows ≡ set-line start L rs
-unfolding row-of
-written-on-cleared {rs = rs} written below size cleared all = written-line written below size (λ k h. absurd (omega arith)) (λ k past h. cleared k h ∙ sym (List·getD-eq-default rs (row 0 0) (omega arith)))
+written-on-cleared {rs = rs} written below size cleared all = written-line written below size (λ k h. absurd (omega arith)) (λ k past h. cleared k h ∙ sym (row-beyond rs k (omega arith)))

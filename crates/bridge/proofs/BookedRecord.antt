@@ -20,7 +20,9 @@ use Rattle.tree.specs.Record.{path-at, no-rows, legal, treeOf, numbers, recordO
 use Rattle.paths.specs.Rules.{row-of, same-node, Spot, place-of, set-line, split-path, split-lines, booked-path, booked-at}
 use Rattle.tree.proofs.Searching.{last-or-below}
 use Rattle.tree.proofs.Opening.{MayOpen, opened-legal}
-use Rattle.bridge.proofs.Blocks.{block, set-line-length, block-set-line-same, block-set-line-other, rows-by-blocks, record-length, block-of-record}
+use Rattle.paths.proofs.SameNode.{same-node-none}
+use Rattle.paths.proofs.Blocks.{block, set-line-length, block-set-line-same, block-set-line-other, rows-by-blocks}
+use Rattle.bridge.proofs.RecordBlocks.{record-length, block-of-record}
 use Rattle.bridge.proofs.TreeOfRecord.{treeOf-path, treeOf-path-of}
 use Rattle.bridge.proofs.NodesOnPaths.{same-node-exactly}
 use Rattle.bridge.proofs.SearchOnPaths.{FoundSpot}
@@ -83,11 +85,6 @@ module _ (rows : List ℕ) (ps : List Row) (l d : ℕ) (long : length rows ≡ 1
       by-test true h earlier =
           block-set-line-other (split-lines rows ps l d n) n M (split-path l d (path-at rows n)) (omega arith) (λ same. omega arith) (split-lines-length n (omega arith)) ∙ h
       by-test false h earlier = h
-
-same-node-none : (l : ℕ) (ps : List Row) → same-node l ps [] ≡ false
-unfolding same-node
-same-node-none l [] = refl
-same-node-none l (r ∷ rs) = refl
 
 -- An open line's path, in the record and in the tree
 

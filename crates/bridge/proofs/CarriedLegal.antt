@@ -17,7 +17,7 @@ use Rattle.bridge.proofs.TreeOfRecord.{treeOf-legal}
 use Rattle.bridge.proofs.RecordRoundTrip.{record-legal, record-has-tree}
 
 -- the tree that a call leaves which is not refused is legal
-carried-out-legal : (c : Call) (t : Tree) → Legal t → refusal c t ≡ none → Legal (carried-out c t)
+pub carried-out-legal : (c : Call) (t : Tree) → Legal t → refusal c t ≡ none → Legal (carried-out c t)
 unfolding refusal carried-out
 carried-out-legal (open-line L p) t is-legal allowed = opened-legal L p t (open-may L p t is-legal allowed)
 carried-out-legal (close-line L) t is-legal allowed = closed-legal L t is-legal

@@ -19,7 +19,8 @@ use Rattle.tree.specs.Opening.{divisor, free, free-class, candidate, candidate-
 use Rattle.paths.specs.Rules.{Family, row-of, same-node, class-taken, class-on-path, Spot, spot-with, spot-at}
 use Rattle.tree.proofs.Searching.{some-below-true, some-below-at}
 use Rattle.tree.proofs.Classes.{present-taken, taken-present}
-use Rattle.bridge.proofs.NodesOnPaths.{place-on, NodeOnPath, path-node, same-node-long, LineThrough, edge-present, through-edge-below, same-node-through, through-same-node}
+use Rattle.paths.proofs.SameNode.{same-node-goes-on}
+use Rattle.bridge.proofs.NodesOnPaths.{place-on, NodeOnPath, path-node, LineThrough, edge-present, through-edge-below, same-node-through, through-same-node}
 
 -- the family holds the path of every line below 64, and no rows for one that does not stand
 abbrev pub PathsOf : Tree → Family → Type 0
@@ -86,7 +87,7 @@ module _ (t : Tree) (legal : Legal t) (family : Family) (paths : PathsOf t famil
       let x = some-below-true 64 _ h in
       let qs = family (x .0) in
       let both = and-eq-true-iff (same-node l (family M) qs) (eqb (row-of l qs .edge % d) i) .0 (x .2) in
-      let standing-too = family-path t family paths (x .0) l (x .1) (same-node-long l (family M) qs (both .0)) in
+      let standing-too = family-path t family paths (x .0) l (x .1) (same-node-goes-on l (family M) qs (both .0) .1) in
       let through = same-node-through M t l (family M) standing long (x .0) qs (x .1) standing-too (both .0) in
       let e = row-of l qs .edge in
       let edge-below = through-edge-below t place weight e through in

@@ -15,7 +15,8 @@ use Rattle.tree.specs.Closing.{closed}
 use Rattle.tree.specs.Record.{path-at, path-in-range, rest-unused, legal, treeOf, numbers, recordOf}
 use Rattle.paths.specs.Rules.{set-line}
 use Rattle.tree.proofs.Searching.{all-below-at}
-use Rattle.bridge.proofs.Blocks.{block, set-line-length, block-set-line-same, block-set-line-other, rows-by-blocks, record-length, block-of-record}
+use Rattle.paths.proofs.Blocks.{block, set-line-length, block-set-line-same, block-set-line-other, rows-by-blocks}
+use Rattle.bridge.proofs.RecordBlocks.{record-length, block-of-record}
 use Rattle.bridge.proofs.BlockPaths.{block-of-path}
 use Rattle.bridge.proofs.TreeOfRecord.{treeOf-legal, treeOf-path-of}
 use Rattle.bridge.proofs.RouteClosing.{closed-path-other, closed-path-gone}

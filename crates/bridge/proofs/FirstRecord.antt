@@ -15,7 +15,8 @@ use Rattle.tree.specs.Opening.{opened}
 use Rattle.tree.specs.Asking.{rows-11}
 use Rattle.tree.specs.Record.{path-at, no-rows, legal, grown, treeOf, numbers, recordOf}
 use Rattle.paths.specs.Rules.{set-line}
-use Rattle.bridge.proofs.Blocks.{block, set-line-length, block-set-line-same, block-set-line-other, rows-by-blocks, record-length, block-of-record}
+use Rattle.paths.proofs.Blocks.{block, set-line-length, block-set-line-same, block-set-line-other, rows-by-blocks}
+use Rattle.bridge.proofs.RecordBlocks.{record-length, block-of-record}
 use Rattle.bridge.proofs.RouteOpening.{opened-path-empty, opened-path-empty-other}
 use Rattle.bridge.proofs.ClosedRecord.{legal-block}
 

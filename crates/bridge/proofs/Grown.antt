@@ -17,7 +17,8 @@ use Rattle.tree.specs.Record.{path-at, parts, no-rows, legal, stand, grown}
 use Rattle.tree.proofs.Proper.{Proper}
 use Rattle.bridge.proofs.Parting.{Parted}
 use Rattle.bridge.proofs.Stand.{stand-proper, stand-path-new, stand-path-other}
-use Rattle.bridge.proofs.LegalRecord.{path-edges-below, legal-in-range, legal-together, open-together}
+use Rattle.paths.proofs.RangeLaws.{path-edges-below}
+use Rattle.paths.proofs.LegalLines.{legal-in-range, legal-together, open-together}
 use Rattle.bridge.proofs.StandLegal.{stand-keeps-legal}
 
 -- The path that a line has for the rows that the record holds for it, and the same for the lines below n

@@ -1,3 +1,6 @@
+-- Paths and trees
+pub mod NodePath
+pub mod SameTree
 -- Paths after closing and opening
 pub mod Route
 pub mod RouteClosing
@@ -8,16 +11,12 @@ pub mod NodesOnPaths
 pub mod ClassOnPaths
 pub mod SearchOnPaths
 -- A line's block of the record, and its path
-pub mod RowsOfNumbers
 pub mod WrittenPaths
-pub mod Blocks
 pub mod BlockPaths
+pub mod RecordBlocks
 -- The tree of a record
-pub mod NodePath
-pub mod SameTree
 pub mod Parting
 pub mod Stand
-pub mod LegalRecord
 pub mod StandLegal
 pub mod Grown
 pub mod TreeOfRecord

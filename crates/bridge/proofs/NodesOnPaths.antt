@@ -7,25 +7,27 @@ use mathlib.Core.Path.{_≡_, refl, sym, _∙_, ap, ap₂, subst}
 use mathlib.Core.Logic.{_↔_}
 use mathlib.Core.Bool.{true, false≢true, and-eq-true-iff}
 use mathlib.Core.List.{List, [], _∷_, _++_}
-use mathlib.Core.Option.{some, Option·map, Option·none-ne-some, map-eq-some-iff}
+use mathlib.Core.Option.{some, Option·none-ne-some}
 use lib.Dec.{eqb}
 use lib.ListN.{length, take, drop, length-append}
 use lib.Seq.{take-at, getD-at}
 use borrow.Author.Tests.{eqb-true, eq-eqb}
 use Rattle.tree.specs.declared.Row.{Row}
-use Rattle.tree.specs.Tree.{Tree, nothing, line, node, present, row, sum-from, sum, path, is-open, Place, at-digits, at, way-by-digits, way}
+use Rattle.tree.specs.Tree.{Tree, nothing, line, node, present, row, sum-from, sum, path, Place, at-digits, at, way-by-digits, way}
 use Rattle.tree.specs.Opening.{under}
-use Rattle.tree.specs.Shape.{Edges, Legal}
+use Rattle.tree.specs.Shape.{Legal}
 use Rattle.paths.specs.Rules.{row-of, same-node}
 use Rattle.tree.proofs.Digits.{digit-low, digit-high}
-use Rattle.tree.proofs.Searching.{first-only, found-some, some-below-true}
+use Rattle.tree.proofs.Searching.{some-below-true}
 use Rattle.tree.proofs.UnderEdge.{stands-present}
 use Rattle.tree.proofs.Proper.{Proper, legal-proper}
-use Rattle.tree.proofs.Standing.{path-of-line, path-below, path-stands, sum-row, stands-open}
+use Rattle.tree.proofs.Standing.{path-of-line, path-below, path-stands, sum-row}
 use Rattle.tree.proofs.ChosenCandidate.{at-under}
 use Rattle.tree.proofs.Opening.{at-proper}
-use Rattle.tree.proofs.Closing.{proper-present-line}
 use Rattle.tree.proofs.Numbering.{stands-number}
+use Rattle.paths.proofs.SameNode.{same-node-goes-on}
+use Rattle.bridge.proofs.NodePath.{path-under}
+use Rattle.bridge.proofs.SameTree.{present-path}
 
 -- the place of level l of a path
 abbrev pub place-on : ℕ → List Row → Place
@@ -113,18 +115,6 @@ way-sum (suc l) r (node w f) here =
     ∙ ap (λ (n : ℕ). r % w + w * n) (way-sum l (r / w) (f (r % w)) here)
     ∙ mod-add-div r w
 
-path-open : (M : ℕ) (t : Tree) (rs : List Row) → path M t ≡ some rs → is-open M t ≡ true
-path-open M t rs h = stands-open M t _ _ (path-stands M t rs h)
-
-pub path-under : (M w e : ℕ) (f : ℕ → Tree) (rs : List Row) → Edges w f → e < w → path M (f e) ≡ some rs → path M (node w f) ≡ some (row w e ∷ rs)
-unfolding path
-path-under M w e f rs edges below h =
-    first-only w _ e (row w e ∷ rs) below (ap (Option·map (_∷_ (row w e))) h) only
-  where
-    only : (k : ℕ) (qs : List Row) → Option·map (_∷_ (row w k)) (path M (f k)) ≡ some qs → k ≡ e
-    only k qs q =
-        edges .line-once M k e (path-open M (f k) _ (map-eq-some-iff (_∷_ (row w k)) (path M (f k)) .0 q .1)) (path-open M (f e) rs h)
-
 -- the path of a line below a place goes through that place
 path-through : (M l r : ℕ) (t : Tree) (rs : List Row) → Proper t → path M (at-digits l r t) ≡ some rs → path M t ≡ some (way-by-digits l r t ++ rs)
 unfolding at-digits way-by-digits Proper path
@@ -133,7 +123,7 @@ path-through M zero (suc r) t rs proper h = absurd (Option·none-ne-some rs h)
 path-through M (suc l) r nothing rs proper h = absurd (Option·none-ne-some rs h)
 path-through M (suc l) r (line n) rs proper h = absurd (Option·none-ne-some rs h)
 path-through M (suc l) r (node w f) rs proper h =
-    path-under M w (r % w) f (way-by-digits l (r / w) (f (r % w)) ++ rs) (proper .1) (mod-lt r (proper .0))
+    path-under M w f (r % w) (way-by-digits l (r / w) (f (r % w)) ++ rs) (proper .1) (mod-lt r (proper .0))
     (path-through M l (r / w) (f (r % w)) rs (proper .2 (r % w)) h)
 
 -- a line whose path goes through the node at a place, of weight w, and takes edge e there
@@ -151,13 +141,6 @@ pub through-edge-below : (t : Tree) (a : Place) (w e : ℕ) → LineThrough t a 
 through-edge-below t a w e x =
     rw (x .row-is) at (path-node (x .line) t (a .level) (x .rows) (x .path-is) (x .level-below) .edge-below)
 
-proper-present-path : (t : Tree) → Proper t → present t ≡ true → (M : ℕ) × (rs : List Row) × (path M t ≡ some rs)
-unfolding is-open
-proper-present-path t proper here =
-    let x = proper-present-line t proper here in
-    let y = found-some (path (x .0) t) (stands-open (x .0) t _ _ (x .3)) in
-    (x .0, y .0, y .1)
-
 path-line-below : (M : ℕ) (t : Tree) (rs : List Row) → Legal t → path M t ≡ some rs → M < 64
 path-line-below M t rs legal h = let small = stands-number M t _ _ legal (path-stands M t rs h) in omega arith
 
@@ -173,9 +156,9 @@ module _ (t : Tree) (legal : Legal t) (a : Place) (w : ℕ) (f : ℕ → Tree) (
   line-through : (e : ℕ) → e < w → present (f e) ≡ true → LineThrough t a w e
   unfolding Proper at way row-of
   line-through e below there =
-      let x = proper-present-path (f e) (node-proper .2 e) there in
+      let x = present-path (f e) (node-proper .2 e) there in
       let rest = row w e ∷ x .1 in
-      let in-node : path (x .0) (at a t) ≡ some rest = rw here (path-under (x .0) w e f (x .1) (node-proper .1) below (x .2)) in
+      let in-node : path (x .0) (at a t) ≡ some rest = rw here (path-under (x .0) w f e (x .1) (node-proper .1) below (x .2)) in
       let whole = path-through (x .0) (a .level) (a .offset) t rest (legal-proper t legal) in-node in
       let long = way-length (a .level) (a .offset) t place-present in
       let above = take-at (way a t) rest (a .level) long in
@@ -230,15 +213,6 @@ rows-same-node (suc l) (r ∷ rs) (q ∷ qs) same long-r long-q =
     rw (eq-eqb (r .edge) (q .edge) (ap (λ (x : Row). x .edge) first-row))
     (rows-same-node l rs qs later-rows (omega arith) (omega arith))
 
-pub same-node-long : (l : ℕ) (rs qs : List Row) → same-node l rs qs ≡ true → l < length qs
-unfolding same-node
-same-node-long l [] qs same = absurd (false≢true same)
-same-node-long l (r ∷ rs) [] same = absurd (false≢true same)
-same-node-long zero (r ∷ rs) (q ∷ qs) same = omega arith
-same-node-long (suc l) (r ∷ rs) (q ∷ qs) same =
-    let later = same-node-long l rs qs (and-eq-true-iff (eqb (r .edge) (q .edge)) (same-node l rs qs) .0 same .1) in
-    omega arith
-
 same-node-rows : (M N : ℕ) (t : Tree) (l : ℕ) (rs qs : List Row) → path M t ≡ some rs → path N t ≡ some qs → same-node l rs qs ≡ true → take l qs ≡ take l rs
 unfolding path same-node
 same-node-rows M N nothing l rs qs h k same = absurd (Option·none-ne-some rs h)
@@ -258,7 +232,7 @@ pub same-node-exactly :
     (M N : ℕ) (t : Tree) (l : ℕ) (rs qs : List Row) → path M t ≡ some rs → path N t ≡ some qs → l < length rs →
     (same-node l rs qs ≡ true) ↔ ((take l qs ≡ take l rs) × (l < length qs))
 same-node-exactly M N t l rs qs h k long = (
-  λ same. (same-node-rows M N t l rs qs h k same, same-node-long l rs qs same),
+  λ same. (same-node-rows M N t l rs qs h k same, same-node-goes-on l rs qs same .1),
   λ both. rows-same-node l rs qs (both .0) long (both .1),
 )
 

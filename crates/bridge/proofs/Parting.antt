@@ -1,19 +1,21 @@
 -- Where one more line may stand in a tree: at the end of a path in range that parts from the path of every line there.
 -- Assumes nothing.
-use Prim.Native.Nat.{ℕ, _<_, _≤_}
+use Prim.Native.Nat.{ℕ, _<_}
 use native.Mathlib.Omega.{arith}
-use mathlib.Core.Path.{_≡_, refl, _∙_, ap}
+use mathlib.Core.Path.{_≡_, refl, sym, _∙_, ap}
 use mathlib.Core.Bool.{true, false, false≢true, not-eq-not, and-eq-true-iff}
 use mathlib.Core.List.{List, [], _∷_}
 use mathlib.Core.Option.{some, Option·none-ne-some}
-use lib.Dec.{eqb, ltb, leb}
-use borrow.Author.Tests.{eqb-true, eq-eqb, ltb-true, leb-true}
+use lib.Dec.{eqb}
+use borrow.Author.Tests.{eqb-true, eq-eqb}
 use Rattle.tree.specs.declared.Row.{Row}
 use Rattle.tree.specs.Search.{found}
 use Rattle.tree.specs.Tree.{Tree, nothing, line, node, present, row, path, is-open}
-use Rattle.tree.specs.Record.{rows-in-range, parts}
+use Rattle.tree.specs.Record.{parts}
 use Rattle.tree.proofs.Proper.{Proper}
 use Rattle.tree.proofs.Standing.{path-below, not-open-below}
+use Rattle.paths.proofs.PathsPart.{parts-none}
+use Rattle.paths.proofs.RangeLaws.{EdgesBelow}
 use Rattle.bridge.proofs.NodePath.{path-under}
 use Rattle.bridge.proofs.SameTree.{present-path, path-here}
 
@@ -24,25 +26,6 @@ unfolding parts
 parts-row p ps q qs h =
     let both = and-eq-true-iff (eqb (p .weight) (q .weight)) _ .0 h in
     (eqb-true _ _ (both .0), λ same. rw (eq-eqb (p .edge) (q .edge) same) at (both .1))
-
-parts-no-rows : (ps : List Row) → parts ps [] ≡ true → ⊥
-unfolding parts
-parts-no-rows [] h = false≢true h
-parts-no-rows (p ∷ ps) h = false≢true h
-
--- Rows in range
-
-pub row-in-range : (r : Row) (rs : List Row) → rows-in-range (r ∷ rs) ≡ true → (2 ≤ r .weight) × (r .edge < r .weight) × (rows-in-range rs ≡ true)
-unfolding rows-in-range
-row-in-range r rs h =
-    let both = and-eq-true-iff (leb 2 (r .weight)) _ .0 h in
-    let rest = and-eq-true-iff (ltb (r .edge) (r .weight)) _ .0 (both .1) in
-    (leb-true _ _ (both .0), ltb-true _ _ (rest .0), rest .1)
-
--- each edge is below its weight
-unfoldable pub EdgesBelow : List Row → Type 0
-EdgesBelow [] = Unit {0}
-EdgesBelow (r ∷ rs) = (r .edge < r .weight) × EdgesBelow rs
 
 -- Line L may stand at the end of the path rs: it stands nowhere, and the path of every line parts from rs
 
@@ -63,7 +46,7 @@ module _ (L : ℕ) where
   no-rows-empty-tree (line n) p = absurd (not-parted-from-line n [] p)
   no-rows-empty-tree (node w f) p =
       let x = present-path (node w f) (p .proper) refl in
-      absurd (parts-no-rows (x .1) (p .parting (x .0) (x .1) (x .2)))
+      absurd (false≢true (sym (parts-none (x .1)) ∙ p .parting (x .0) (x .1) (x .2)))
 
   pub parted-from-nothing : (rs : List Row) → EdgesBelow rs → Parted L rs nothing
   unfolding Proper path is-open found

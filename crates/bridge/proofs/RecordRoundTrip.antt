@@ -21,12 +21,12 @@ use Rattle.tree.proofs.Depth.{at-most-11-above}
 use Rattle.tree.proofs.Numbering.{stands-number}
 use Rattle.tree.proofs.Standing.{path-stands, path-below}
 use Rattle.bridge.proofs.WrittenPaths.{Weighted, Written}
-use Rattle.bridge.proofs.Blocks.{rows-by-blocks, record-length, block-of-record}
+use Rattle.paths.proofs.Blocks.{rows-by-blocks}
+use Rattle.bridge.proofs.RecordBlocks.{record-length, block-of-record}
 use Rattle.bridge.proofs.BlockPaths.{path-of-block, rest-unused-of-block}
 use Rattle.bridge.proofs.SameTree.{same-paths-same-tree}
 use Rattle.bridge.proofs.TreeOfRecord.{treeOf-legal, treeOf-path, treeOf-path-beyond}
-use Rattle.bridge.proofs.LegalRecord.{path-edges-below}
-use Rattle.bridge.proofs.Parting.{EdgesBelow}
+use Rattle.paths.proofs.RangeLaws.{EdgesBelow, path-edges-below}
 use Rattle.bridge.proofs.LegalPaths.{legal-path-in-range, paths-part}
 use Rattle.bridge.proofs.ClosedRecord.{block-of-tree}
 

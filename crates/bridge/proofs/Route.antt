@@ -2,17 +2,15 @@
 -- Assumes nothing.
 use Prim.Native.Nat.{ℕ, _<_}
 use mathlib.Core.Path.{_≡_, refl, sym, _∙_, ap}
-use mathlib.Core.Bool.{true}
 use mathlib.Core.List.{List, [], _∷_}
-use mathlib.Core.Option.{Option, none, some, Option·map, map-eq-some-iff, Option·none-ne-some}
+use mathlib.Core.Option.{Option, none, some, Option·none-ne-some}
 use borrow.Author.Tests.{eq-eqb}
 use Rattle.tree.specs.declared.Row.{Row}
-use Rattle.tree.specs.Search.{found}
-use Rattle.tree.specs.Tree.{Tree, nothing, line, node, row, product, sum-from, sum, path, is-open}
+use Rattle.tree.specs.Tree.{Tree, nothing, line, node, row, product, sum-from, sum, path}
 use Rattle.tree.specs.Standing.{Stands}
-use Rattle.tree.proofs.Searching.{first-only}
 use Rattle.tree.proofs.Proper.{Proper}
 use Rattle.tree.proofs.Standing.{sum-row, path-of-line, path-below}
+use Rattle.bridge.proofs.NodePath.{path-under}
 
 -- The rows go through a node of weight w. `R e qs` says that the rows qs go on under edge e.
 pub record ThroughEdge (w : ℕ) (rs : List Row) (R : ℕ → List Row → Type 0) : Type 0 where
@@ -69,21 +67,13 @@ path-route M (node w f) rs h =
       rows-are = x .rows-are;
     }
 
-path-open : (M : ℕ) (t : Tree) (rs : List Row) → path M t ≡ some rs → is-open M t ≡ true
-unfolding is-open found
-path-open M t rs h = ap found h
-
 pub route-path : (M : ℕ) (t : Tree) (rs : List Row) → Proper t → Route M t rs → path M t ≡ some rs
 unfolding path Route Proper
 route-path M nothing rs proper h = absurd h
 route-path M (line n) rs proper h = rw (eq-eqb n M (h .0), h .1)
 route-path M (node w f) rs proper h =
-    let e = h .edge in
-    let below : path M (f e) ≡ some (h .rest) = route-path M (f e) (h .rest) (proper .2 e) (h .route) in
-    let here = path-open M (f e) (h .rest) below in
-    first-only w _ e rs (h .edge-below) (ap (Option·map (_∷_ (row w e))) below ∙ ap some (sym (h .rows-are))) λ j qs offered.
-    let there = map-eq-some-iff (_∷_ (row w j)) (path M (f j)) .0 offered in
-    proper .1 .line-once M j e (path-open M (f j) (there .0) (there .1)) here
+    let below = route-path M (f (h .edge)) (h .rest) (proper .2 (h .edge)) (h .route) in
+    path-under M w f (h .edge) (h .rest) (proper .1) (h .edge-below) below ∙ ap some (sym (h .rows-are))
 
 pub no-route-path-none : (M : ℕ) (t : Tree) → ((rs : List Row) → Route M t rs → ⊥) → path M t ≡ none
 no-route-path-none M t absent = go (path M t) refl

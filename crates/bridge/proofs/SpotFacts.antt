@@ -22,7 +22,7 @@ use Rattle.tree.proofs.Depth.{at-most-11-above}
 use Rattle.tree.proofs.BookingAt.{Fit, FitIn}
 use Rattle.tree.proofs.Opening.{MayOpen, chosen-fits, opened-legal, opened-new}
 use Rattle.bridge.proofs.SearchOnPaths.{FoundSpot}
-use Rattle.bridge.proofs.NodesOnPaths.{same-node-long}
+use Rattle.paths.proofs.SameNode.{same-node-goes-on}
 use Rattle.bridge.proofs.BookedRecord.{open-path, through-path, new-line-path, booked-start}
 
 split-path-length : (l d : ℕ) (rs : List Row) → l < length rs → length (split-path l d rs) ≡ suc (length rs)
@@ -86,7 +86,7 @@ module _ (plan : Plan) (L p : ℕ) (s : Spot) (is-legal : legal (plan .rows) ≡
   pub row-left : (M : ℕ) → M < 64 → same-node (s .level) ps (path-at (plan .rows) M) ≡ true → s .divisor < weight → length (path-at (plan .rows) M) < 11
   row-left M below through small =
       let rs = path-at (plan .rows) M in
-      let reaches = same-node-long (s .level) ps rs through in
+      let reaches = same-node-goes-on (s .level) ps rs through .1 in
       let after = through-path plan L p s is-legal long may found-spot M rs (open-path plan M is-legal below (omega arith)) through in
       let split = rw (lt-ltb (s .divisor) weight small) at after in
       let most = at-most-11-above (opened L p t) M (split-path (s .level) (s .divisor) rs) (opened-legal L p t may) split in

@@ -19,9 +19,10 @@ use Rattle.tree.proofs.Put.{InPut, put-stands, put-same, put-each}
 use Rattle.tree.proofs.Proper.{Proper, nothing-open, only-edge-edges}
 use Rattle.tree.proofs.Standing.{open-stands, stands-open, not-open-below}
 use Rattle.tree.proofs.BookingAt.{put-edges}
+use Rattle.paths.proofs.RangeLaws.{EdgesBelow, row-in-range}
 use Rattle.bridge.proofs.NodePath.{path-under, path-put}
 use Rattle.bridge.proofs.SameTree.{path-here}
-use Rattle.bridge.proofs.Parting.{EdgesBelow, Parted, row-in-range, not-parted-from-line, no-rows-empty-tree, parted-from-nothing, parted-weight, parted-edge, parted-below}
+use Rattle.bridge.proofs.Parting.{Parted, not-parted-from-line, no-rows-empty-tree, parted-from-nothing, parted-weight, parted-edge, parted-below}
 
 -- What stands in the tree afterwards
 

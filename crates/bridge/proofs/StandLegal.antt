@@ -14,9 +14,9 @@ use Rattle.tree.specs.Shape.{LegalUnder, Legal}
 use Rattle.tree.specs.Record.{path-in-range, no-rows, stand}
 use Rattle.tree.proofs.Searching.{some-below-true}
 use Rattle.tree.proofs.Proper.{Proper}
-use Rattle.bridge.proofs.Parting.{Parted, row-in-range, parted-weight, parted-below, not-parted-from-line, no-rows-empty-tree}
+use Rattle.bridge.proofs.Parting.{Parted, parted-weight, parted-below, not-parted-from-line, no-rows-empty-tree}
 use Rattle.bridge.proofs.Stand.{stand-legal}
-use Rattle.bridge.proofs.LegalRecord.{alone-or-in-range, period-in-range}
+use Rattle.paths.proofs.RangeLaws.{alone-or-in-range, period-in-range, row-in-range}
 
 -- a tree into which a line goes under a root of weight 1 is empty
 only-under-root-1 : (n : ℕ) (t : Tree) → Parted n (row 1 0 ∷ []) t → t ≡ nothing

@@ -21,7 +21,9 @@ use Rattle.paths.specs.Rules.{Family, row-of, same-node, line-under, walk-on-pa
 use Rattle.tree.proofs.Searching.{smallest-some, smallest-none}
 use Rattle.tree.proofs.Standing.{path-of-line}
 use Rattle.tree.proofs.Depth.{at-most-11-above}
-use Rattle.bridge.proofs.NodesOnPaths.{place-on, same-node-long, same-node-exactly, under-edge-taken, edge-present, node-path, through-same-node}
+use Rattle.paths.proofs.RowLaws.{some-rows}
+use Rattle.paths.proofs.SameNode.{same-node-goes-on}
+use Rattle.bridge.proofs.NodesOnPaths.{place-on, same-node-exactly, under-edge-taken, edge-present, node-path, through-same-node}
 use Rattle.bridge.proofs.ClassOnPaths.{PathsOf, path-family, family-path, node-on-path}
 use Rattle.bridge.proofs.SameTree.{path-goes-on}
 
@@ -45,11 +47,6 @@ unfolding Legal present
 root-node nothing legal here = absurd (false≢true here)
 root-node (line n) legal here = absurd legal
 root-node (node w f) legal here = (w, f, refl)
-
-rows-long : (rs : List Row) → no-rows rs ≡ false → 0 < length rs
-unfolding no-rows
-rows-long [] h = absurd (true≢false h)
-rows-long (r ∷ rs) h = omega arith
 
 long-has-rows : (rs : List Row) → 0 < length rs → no-rows rs ≡ false
 unfolding no-rows
@@ -93,7 +90,7 @@ module _ (t : Tree) (legal : Legal t) (family : Family) (paths : PathsOf t famil
     some-under e N h =
         let x = smallest-some 64 _ N h in
         let both = and-eq-true-iff (same-node l (family M) (family N)) (eqb (row-of l (family N) .edge) e) .0 (x .passes) in
-        let standing-too = family-path t family paths N l (x .in-range) (same-node-long l (family M) (family N) (both .0)) in
+        let standing-too = family-path t family paths N l (x .in-range) (same-node-goes-on l (family M) (family N) (both .0) .1) in
         let rows = same-node-exactly M N t l (family M) (family N) standing standing-too long .0 (both .0) in
         let goes-on = under-edge-taken t legal (place-on l (family M)) weight edges node-is N (family N) standing-too (rows .1) (ap sum (rows .0)) in
         let edge : row-of l (family N) .edge ≡ e = eqb-true (row-of l (family N) .edge) e (both .1) in
@@ -158,4 +155,4 @@ module _ (t : Tree) (legal : Legal t) (family : Family) (paths : PathsOf t famil
       by-line none h = rw (h, owner-on-paths) (sym (no-line-no-owner n h))
       by-line (some M) h =
           let x = smallest-some 64 _ M h in
-          rw (h, owner-on-paths) (walk-is 11 M 0 n (x .in-range) (rows-long (family M) (not-true (no-rows (family M)) (x .passes))) (omega arith))
+          rw (h, owner-on-paths) (walk-is 11 M 0 n (x .in-range) (some-rows (family M) (not-true (no-rows (family M)) (x .passes))) (omega arith))

@@ -2,10 +2,8 @@
 -- Assumes nothing.
 use Prim.Native.Nat.{ℕ, zero, suc, _+_, _≤_, _<_}
 use native.Mathlib.Omega.{arith}
-use native.Mathlib.Nat.{add-zero, add-suc, suc-add, eq-zero-or-pos}
 use native.Mathlib.Decide.{decLt}
 use mathlib.Core.Path.{_≡_, sym, ap, ap₂, _∙_}
-use mathlib.Core.Logic.{inl, inr}
 use mathlib.Core.List.{List, [], _∷_}
 use lib.ListN.{length, drop, drop-of-length-le}
 use lib.Seq.{drop-cons}
@@ -14,7 +12,7 @@ use Rattle.tree.specs.declared.Row.{Row}
 use Rattle.tree.specs.Tree.{row}
 use Rattle.tree.specs.Record.{row-at, path-from}
 use Rattle.paths.specs.Rules.{row-of}
-use Rattle.bridge.proofs.RowsOfNumbers.{row-of-beyond}
+use Rattle.paths.proofs.RowLaws.{row-beyond}
 
 -- every weight is above 0
 unfoldable pub Weighted : List Row → Type 0
@@ -43,21 +41,6 @@ module _ (rows : List ℕ) (L : ℕ) where
   unfolding path-from
   path-from-goes-on k n more = rw (ne-eqb (row-at rows L k .weight) 0 (λ e. omega arith))
 
-  path-from-begins : (k n : ℕ) → 0 < length (path-from rows L k (suc n)) → 0 < row-at rows L k .weight
-  path-from-begins k n some-rows =
-      elim (eq-zero-or-pos (row-at rows L k .weight)) [
-        | inl none ↦ absurd (omega (arith, ap length (path-from-ends k n none)))
-        | inr more ↦ more
-      ]
-
-  pub row-of-path-from : (k n j : ℕ) → j < length (path-from rows L k n) → row-of j (path-from rows L k n) ≡ row-at rows L (k + j)
-  unfolding path-from row-of
-  row-of-path-from k zero j below = absurd (omega arith)
-  row-of-path-from k (suc n) zero below = rw (path-from-goes-on k n (path-from-begins k n below), add-zero k)
-  row-of-path-from k (suc n) (suc j) below =
-      let on = path-from-goes-on k n (path-from-begins k n (omega arith)) in
-      rw (on, add-suc k j, ← suc-add k j) (row-of-path-from (suc k) n j (omega (arith, ap length on)))
-
   -- with the rows of a path, the path is read back
   pub path-from-of-rows : (rs : List Row) → Written rs → ((k : ℕ) → k < 11 → row-at rows L k ≡ row-of k rs) → (k n : ℕ) → k + n ≡ 11 → path-from rows L k n ≡ drop k rs
   unfolding path-from row-of
@@ -70,6 +53,6 @@ module _ (rows : List ℕ) (L : ℕ) where
             ∙ ap₂ _∷_ here (path-from-of-rows rs w same (suc k) n (omega arith))
             ∙ sym (drop-cons rs k (row 0 0) below)
         | no beyond ↦
-            path-from-ends k n (ap (λ (r : Row). r .weight) (here ∙ row-of-beyond rs k (omega arith)))
+            path-from-ends k n (ap (λ (r : Row). r .weight) (here ∙ row-beyond rs k (omega arith)))
             ∙ sym (drop-of-length-le rs {i = k} (omega arith))
       ]

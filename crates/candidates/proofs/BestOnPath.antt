@@ -15,7 +15,7 @@ use Rattle.paths.proofs.LegalLines.{legal-in-range}
 use Rattle.candidates.specs.declared.Chosen.{Chosen}
 use Rattle.candidates.specs.declared.Chosen.the-variants.{Nothing}
 use Rattle.candidates.specs.Answers.{spot-of, Reached}
-use Rattle.candidates.proofs.PathRows.{path-row}
+use Rattle.paths.proofs.PathRows.{row-in-path}
 use Rattle.candidates.proofs.PathNumbers.{product-more, sum-more, Bounded, path-numbers}
 
 -- Along one path
@@ -39,10 +39,10 @@ module _ (rows : List ℕ) {p L l m r : ℕ} {best : Option Spot} (reached : Rea
 
     module _ (below : l < length (path-at rows L)) where
       offset-next : {e : ℕ} → e ≡ row-at rows L l .edge → r + e * m ≡ sum (take (suc l) (path-at rows L))
-      offset-next read = rw (reached .offset-is, reached .step-is, read, ← path-row rows L l below) (sym (sum-more (path-at rows L) l below))
+      offset-next read = rw (reached .offset-is, reached .step-is, read, ← row-in-path rows L below) (sym (sum-more (path-at rows L) l below))
 
       step-next : {w : ℕ} → w ≡ row-at rows L l .weight → m * w ≡ product (take (suc l) (path-at rows L))
-      step-next read = rw (reached .step-is, read, ← path-row rows L l below) (sym (product-more (path-at rows L) l below))
+      step-next read = rw (reached .step-is, read, ← row-in-path rows L below) (sym (product-more (path-at rows L) l below))
 
       -- the next offset and the next step are small
       pub offset-small : {e : ℕ} → e ≡ row-at rows L l .edge → r + e * m ≤ 4095

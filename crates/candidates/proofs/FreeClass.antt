@@ -3,7 +3,7 @@
 use Prim.Native.Nat.{ℕ, _+_, _%_, _<_, _≤_}
 use native.Mathlib.Omega.{arith}
 use mathlib.Core.Path.{_≡_, refl, sym, _∙_, ap}
-use mathlib.Core.Bool.{Bool, true, false, not, _&&_}
+use mathlib.Core.Bool.{Bool, true, false, not, _&&_, and-false}
 use mathlib.Core.List.{List}
 use mathlib.Core.Option.{none, some}
 use lib.Dec.{eqb}
@@ -11,8 +11,8 @@ use borrow.Author.Tests.{eq-eqb, ne-eqb}
 use Rattle.tree.specs.Record.{row-at, path-at}
 use Rattle.paths.specs.Rules.{row-of, same-node, class-taken, class-on-path}
 use Rattle.tree.proofs.Searching.{some-below-at}
-use Rattle.candidates.proofs.NoneBelow.{NoneBelow, none-below-start, none-below-more, smallest-here, smallest-nowhere, none-passes}
-use Rattle.candidates.proofs.PathRows.{path-row, same-node-goes-on}
+use Rattle.paths.proofs.NoneBelow.{NoneBelow, none-below-start, none-below-more, smallest-here, smallest-nowhere, none-passes}
+use Rattle.paths.proofs.SameNode.{edge-read}
 
 -- line M goes through the node at level l of line L's path, and takes an edge of class i there
 abbrev pub takes : List ℕ → ℕ → ℕ → ℕ → ℕ → ℕ → Bool
@@ -36,19 +36,11 @@ lines-start rows L l d i = record { present = refl; searched = none-below-start 
 
 -- e was read as the edge in row l of line M
 module _ (rows : List ℕ) (L l d i M : ℕ) {e : ℕ} (read : e ≡ row-at rows M l .edge) where
-  -- through the node, the path has the record's row there
-  edge-there : same-node l (path-at rows L) (path-at rows M) ≡ true → row-of l (path-at rows M) .edge ≡ e
-  edge-there through = ap (λ r. r .edge) (path-row rows M l (same-node-goes-on l (path-at rows L) (path-at rows M) through .1)) ∙ sym read
-
   takes-other-class : (e % d ≡ i → ⊥) → takes rows L l d i M ≡ false
-  takes-other-class other = go (same-node l (path-at rows L) (path-at rows M)) refl
-    where
-      go : (b : Bool) → same-node l (path-at rows L) (path-at rows M) ≡ b → takes rows L l d i M ≡ false
-      go true h = rw (h, edge-there h) (ne-eqb _ _ other)
-      go false h = rw h
+  takes-other-class other = edge-read rows (path-at rows L) l M read (λ k. eqb (k % d) i) ∙ rw (ne-eqb _ _ other, and-false)
 
   takes-class : e % d ≡ i → same-node l (path-at rows L) (path-at rows M) ≡ true → takes rows L l d i M ≡ true
-  takes-class same through = rw (through, edge-there through) (eq-eqb _ _ same)
+  takes-class same through = edge-read rows (path-at rows L) l M read (λ k. eqb (k % d) i) ∙ rw (through, eq-eqb _ _ same)
 
 module _ {rows : List ℕ} {L l d i₀ i M : ℕ} (lines : Lines rows L l d i₀ i M) where
   lines-more : M < 64 → takes rows L l d i M ≡ false → Lines rows L l d i₀ i (M + 1)

@@ -1,6 +1,4 @@
 pub mod Euclid
-pub mod NoneBelow
-pub mod PathRows
 pub mod FreeClass
 pub mod Spots
 pub mod NothingBetter

@@ -4,19 +4,16 @@ use Prim.Native.Nat.{ℕ, zero, suc, _+_, _*_, _<_, _≤_}
 use native.Mathlib.Omega.{arith}
 use native.Mathlib.Nat.{mul-one, one-mul, mul-zero, mul-add, mul-assoc, mul-left-comm, mul-le-mul-left}
 use mathlib.Core.Path.{_≡_, refl, _∙_, ap}
-use mathlib.Core.Bool.{Bool, true, false, _||_, _&&_, false≢true}
+use mathlib.Core.Bool.{true}
 use mathlib.Core.List.{List, [], _∷_, _++_}
-use lib.Dec.{ltb, leb, eqb}
 use lib.ListN.{length, take}
 use lib.Seq.{take-suc}
-use borrow.Author.Tests.{ltb-true, leb-true, eqb-true}
 use Rattle.tree.specs.declared.Row.{Row}
 use Rattle.tree.specs.Tree.{row, product, sum-from, sum}
-use Rattle.tree.specs.Record.{rows-in-range, alone, path-in-range}
+use Rattle.tree.specs.Record.{path-in-range}
 use Rattle.paths.specs.Rules.{row-of}
-use Rattle.tree.proofs.Digits.{digits-below}
 use Rattle.tree.proofs.Standing.{sum-row}
-use Rattle.paths.proofs.AllBelow.{both-true}
+use Rattle.paths.proofs.RangeLaws.{EdgesBelow, path-edges-below, period-in-range, sum-below}
 
 -- One row more
 
@@ -47,42 +44,8 @@ module _ (rs : List Row) (l : ℕ) (below : l < length rs) where
 
 -- A path in range
 
--- each edge is below its node's weight
-abbrev EdgesBelow : List Row → Type 0
-EdgesBelow [] = Unit
-EdgesBelow (r ∷ rs) = (r .edge < r .weight) × EdgesBelow rs
-
-rows-edges-below : (rs : List Row) → rows-in-range rs ≡ true → EdgesBelow rs
-unfolding rows-in-range
-rows-edges-below [] h = tt
-rows-edges-below (r ∷ rs) h =
-    let later = both-true _ (rows-in-range rs) (both-true (leb 2 (r .weight)) (ltb (r .edge) (r .weight) && rows-in-range rs) h .1) in
-    (ltb-true (r .edge) (r .weight) (later .0), rows-edges-below rs (later .1))
-
-alone-edges-below : (rs : List Row) → alone rs ≡ true → EdgesBelow rs
-unfolding alone
-alone-edges-below [] h = absurd (false≢true h)
-alone-edges-below (r ∷ []) h =
-    let both = both-true (eqb (r .weight) 1) (eqb (r .edge) 0) h in
-    let one = eqb-true (r .weight) 1 (both .0) in
-    let none = eqb-true (r .edge) 0 (both .1) in
-    (omega arith, tt)
-alone-edges-below (r ∷ s ∷ rs) h = absurd (false≢true h)
-
-edges-below : (rs : List Row) → (alone rs || rows-in-range rs) ≡ true → EdgesBelow rs
-edges-below rs h = go (alone rs) refl h
-  where
-    go : (b : Bool) → alone rs ≡ b → (b || rows-in-range rs) ≡ true → EdgesBelow rs
-    go true e k = alone-edges-below rs e
-    go false e k = rows-edges-below rs k
-
--- the sum is below the product
-sum-below : (rs : List Row) → EdgesBelow rs → sum rs < product rs
-unfolding product sum sum-from
-sum-below [] h = omega arith
-sum-below (r ∷ rs) h = rw (sum-row r rs) (digits-below (r .weight) (product rs) (r .edge) (sum rs) (h .0) (sum-below rs (h .1)))
-
 take-edges-below : (rs : List Row) (l : ℕ) → EdgesBelow rs → EdgesBelow (take l rs)
+unfolding EdgesBelow
 take-edges-below [] zero h = tt
 take-edges-below [] (suc l) h = tt
 take-edges-below (r ∷ rs) zero h = tt
@@ -90,7 +53,7 @@ take-edges-below (r ∷ rs) (suc l) h = (h .0, take-edges-below rs l (h .1))
 
 -- the product over the first rows is at most that over all
 take-product : (rs : List Row) (l : ℕ) → EdgesBelow rs → product (take l rs) ≤ product rs
-unfolding product
+unfolding EdgesBelow product
 take-product [] zero h = omega arith
 take-product [] (suc l) h = omega arith
 take-product (r ∷ rs) zero h = omega (arith, sum-below (r ∷ rs) h)
@@ -102,11 +65,9 @@ pub record Bounded (rs : List Row) (l : ℕ) : Type 0 where
   pub step-small : product (take l rs) ≤ 4095
 
 pub path-numbers : (rs : List Row) → path-in-range rs ≡ true → (l : ℕ) → Bounded rs l
-unfolding path-in-range
 path-numbers rs h l =
-    let both = both-true (alone rs || rows-in-range rs) (leb (product rs) 4095) h in
-    let edges = edges-below rs (both .0) in
+    let edges = path-edges-below rs h in
     record {
       offset-below = sum-below (take l rs) (take-edges-below rs l edges);
-      step-small = omega (arith, take-product rs l edges, leb-true (product rs) 4095 (both .1));
+      step-small = omega (arith, take-product rs l edges, period-in-range rs h);
     }

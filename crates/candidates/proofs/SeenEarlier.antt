@@ -19,8 +19,8 @@ use Rattle.tree.proofs.Searching.{some-below-true, some-below-at}
 use Rattle.paths.proofs.AllBelow.{both-true}
 use Rattle.paths.proofs.LegalLines.{legal-together}
 use Rattle.candidates.specs.Answers.{seen-earlier, Reached}
-use Rattle.candidates.proofs.NoneBelow.{NoneBelow, none-below-more, none-passes}
-use Rattle.candidates.proofs.PathRows.{same-node-goes-on}
+use Rattle.paths.proofs.NoneBelow.{NoneBelow, none-below-more, none-passes}
+use Rattle.paths.proofs.SameNode.{same-node-goes-on}
 use Rattle.candidates.proofs.NothingBetter.{NoBetter, no-better-place, place-no-better, path-keeps, lines-searched}
 
 -- One node

@@ -12,12 +12,10 @@ use Rattle.tree.specs.Calls.{Call, open-line, close-line, Answer, refusal, repl
 use Rattle.tree.specs.Lists.{Entry, calls-of, reference-from, reference, answered-from}
 use Rattle.tree.specs.Demand3.{Demand3}
 use Rattle.tree.specs.Record.{treeOf, recordOf}
-use Rattle.tree.proofs.Opening.{opened-legal}
-use Rattle.tree.proofs.Closing.{closed-legal}
-use Rattle.tree.proofs.Checks.{open-may}
 use Rattle.tree.proofs.Demand3.{demand-3}
 use Rattle.bridge.proofs.TreeOfRecord.{treeOf-legal}
 use Rattle.bridge.proofs.RecordRoundTrip.{record-has-tree}
+use Rattle.bridge.proofs.CarriedLegal.{carried-out-legal}
 use Rattle.plan.specs.declared.ask.OwnerAnswer.{OwnerAnswer}
 use Rattle.plan.specs.declared.ask.OwnerAnswer.the-variants.{Line, Idle}
 use Rattle.plan.specs.Ask.{owner-answer}
@@ -25,12 +23,6 @@ use Rattle.plan.specs.Meets.{empty-plan, plan-unless, plan-after, Meets}
 use Rattle.history.specs.Ran.{handed-on, Ran, Demand3OfCalls, NamesOwner, OwnerOfCalls}
 
 -- One call
-
--- a call that is not refused leaves a legal tree
-carried-out-legal : (c : Call) (t : Tree) → Legal t → refusal c t ≡ none → Legal (carried-out c t)
-unfolding refusal carried-out
-carried-out-legal (open-line L p) t legal none-refuses = opened-legal L p t (open-may L p t legal none-refuses)
-carried-out-legal (close-line L) t legal none-refuses = closed-legal L t legal
 
 -- the plan after a call has the tree that the rules leave
 plan-after-tree : (c : Call) (plan : Plan) → treeOf (plan-after c plan) ≡ after c (treeOf plan)

@@ -3,7 +3,7 @@
 use Prim.Native.Nat.{ℕ, zero, suc, _+_, _*_, _/_, _<_, _≤_}
 use native.Mathlib.Omega.{arith}
 use mathlib.Core.Path.{_≡_, refl, _∙_, ap, ap₂}
-use mathlib.Core.Bool.{Bool, true, false, not, false≢true}
+use mathlib.Core.Bool.{Bool, true, false, not}
 use mathlib.Core.List.{List, [], _∷_}
 use mathlib.Core.Option.{none}
 use lib.Dec.{ltb}
@@ -19,12 +19,13 @@ use Rattle.tree.proofs.Checks.{range-positive, range-at-most, open-refused-1, o
 use Rattle.tree.proofs.Opening.{MayOpen}
 use Rattle.tree.proofs.Searching.{all-below-at}
 use Rattle.paths.proofs.AllBelow.{all-below-faulty}
+use Rattle.paths.proofs.RowLaws.{no-rows-length}
 use Rattle.paths.proofs.LegalLines.{legal-rest-unused}
 use Rattle.booking.specs.Writing.{Placeable}
 use Rattle.bridge.specs.Rows.{tree-of, CarriedOut}
 use Rattle.bridge.proofs.SearchOnPaths.{FoundSpot}
 use Rattle.bridge.proofs.FirstRecord.{AllClosed}
-use Rattle.bridge.proofs.CallsOnRecords.{refused-on, open-by-rows, open-first-on, open-full-on, spot-found, may-open, open-booked-on}
+use Rattle.bridge.proofs.CallsOnRecords.{refused-on, open-by-rows, open-first-on, open-full-on, spot-found, may-open}
 use Rattle.bridge.proofs.SpotFacts.{divisor-positive, product-at-most, product-positive, start-below, row-left, rows-fit}
 use Rattle.bridge.proofs.BookedRecord.{split-path-at}
 use Rattle.lines.specs.Bookable.{Bookable, BookableAt, SplittableIfSmaller, split-if-smaller}
@@ -66,11 +67,6 @@ module _ (rows : List ℕ) (L p : ℕ) (ready : Bookable rows L p) (long : lengt
 
 -- At the chosen candidate
 
-no-rows-length : (rs : List Row) → no-rows rs ≡ true → length rs ≡ 0
-unfolding no-rows
-no-rows-length [] h = refl
-no-rows-length (r ∷ rs) h = absurd (false≢true h)
-
 take-split-path : (l d : ℕ) (rs : List Row) → take l (split-path l d rs) ≡ take l rs
 unfolding split-path
 take-split-path zero d [] = refl
@@ -87,9 +83,6 @@ module _ (rows : List ℕ) (L p : ℕ) (s : Spot) (ready-at : BookableAt rows L 
 
   may : MayOpen L p (tree-of rows)
   may = may-open rows (ready .is-legal) long L p (ready .number) (ready .inside) (ready .absent) s (ready-at .found-one)
-
-  pub open-booked : CarriedOut (open-line L p) rows (booked-at rows L p s) (booked (s .offset + s .class * s .step))
-  open-booked = open-booked-on rows (ready .is-legal) long L p (ready .number) (ready .inside) (ready .absent) s (ready-at .found-one)
 
   -- the numbers that the code computes are in range
   pub product-fits : s .step * s .divisor ≤ 4095

@@ -1,5 +1,6 @@
--- Tests of every number below a bound
+-- Tests of every number below a bound, and searches for the smallest
 pub mod AllBelow
+pub mod NoneBelow
 -- Paths, read row by row
 pub mod PathRest
 pub mod PathRows
@@ -8,5 +9,8 @@ pub mod PathsPart
 pub mod SameNode
 pub mod PathRange
 pub mod UnusedRows
+pub mod RowLaws
+pub mod RangeLaws
 -- The whole record
+pub mod Blocks
 pub mod LegalLines

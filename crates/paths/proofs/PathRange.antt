@@ -54,14 +54,11 @@ module _ {rows : List ℕ} {L m k : ℕ} (checked : InRange rows L m k) where
     in-range-end zero-weight = checked .same ∙ rw (path-rest-end rows L k below read zero-weight) (checked-end m k (checked .small))
 
     module _ (some-weight : w ≡ 0 → ⊥) where
-      row-left : path-rest rows L k ≡ row-at rows L k ∷ path-rest rows L (k + 1)
-      row-left = path-rest-row rows L k below read some-weight
-
       pub weight-too-small : w < 2 → rows-checked (path-at rows L) ≡ Fault
       unfolding checked-from rows-in-range
       weight-too-small h =
           let low : row-at rows L k .weight < 2 = omega arith in
-          checked .same ∙ rw (row-left, lt-leb _ _ low)
+          checked .same ∙ rw (path-rest-row rows L k below read some-weight, lt-leb _ _ low)
 
       -- and e as its edge
       module _ (two : 2 ≤ w) {e : ℕ} (read-edge : e ≡ row-at rows L k .edge) where
@@ -72,7 +69,7 @@ module _ {rows : List ℕ} {L m k : ℕ} (checked : InRange rows L m k) where
         unfolding checked-from rows-in-range
         edge-too-large h =
             let large : row-at rows L k .weight ≤ row-at rows L k .edge = omega arith in
-            checked .same ∙ rw (row-left, le-leb _ _ weight-fits, le-ltb _ _ large)
+            checked .same ∙ rw (path-rest-row rows L k below read some-weight, le-leb _ _ weight-fits, le-ltb _ _ large)
 
         module _ (edge-fits : e < w) where
           edge-below : row-at rows L k .edge < row-at rows L k .weight
@@ -82,7 +79,7 @@ module _ {rows : List ℕ} {L m k : ℕ} (checked : InRange rows L m k) where
           unfolding checked-from rows-in-range product
           one-row =
               let count : k + suc (length (path-rest rows L (k + 1))) ≡ k + 1 + length (path-rest rows L (k + 1)) = omega arith in
-              rw (row-left, le-leb _ _ weight-fits, lt-ltb _ _ edge-below, read, mul-assoc, count)
+              rw (path-rest-row rows L k below read some-weight, le-leb _ _ weight-fits, lt-ltb _ _ edge-below, read, mul-assoc, count)
 
           pub period-too-large : 4095 < m * w → rows-checked (path-at rows L) ≡ Fault
           unfolding checked-from

@@ -37,12 +37,6 @@ module _ {rows : List ℕ} {a b k : ℕ} (alike : Alike rows a b k) where
 
     -- and v as the second one's
     module _ (some-weight : w ≡ 0 → ⊥) {v : ℕ} (read-second : v ≡ row-at rows b k .weight) where
-      first-goes-on : path-rest rows a k ≡ row-at rows a k ∷ path-rest rows a (k + 1)
-      first-goes-on = path-rest-row rows a k below read some-weight
-
-      second-goes-on : (v ≡ 0 → ⊥) → path-rest rows b k ≡ row-at rows b k ∷ path-rest rows b (k + 1)
-      second-goes-on = path-rest-row rows b k below read-second
-
       -- the second path has ended, or goes through another node
       pub other-node : (v ≡ w → ⊥) → parts (path-at rows a) (path-at rows b) ≡ false
       unfolding parts
@@ -50,22 +44,22 @@ module _ {rows : List ℕ} {a b k : ℕ} (alike : Alike rows a b k) where
         where
           go : (v ≡ 0) ⊎ (v ≡ 0 → ⊥) → parts (path-rest rows a k) (path-rest rows b k) ≡ false
           go (inl z) = rw (path-rest-end rows b k below read-second z) (parts-none (path-rest rows a k))
-          go (inr n) = rw (first-goes-on, second-goes-on n, ne-eqb _ _ (λ e. differ (read-second ∙ sym e ∙ sym read)))
+          go (inr n) = rw (path-rest-row rows a k below read some-weight, path-rest-row rows b k below read-second n, ne-eqb _ _ (λ e. differ (read-second ∙ sym e ∙ sym read)))
 
       module _ (one-node : v ≡ w) {e d : ℕ} (read-edge : e ≡ row-at rows a k .edge) (read-other : d ≡ row-at rows b k .edge) where
-        second-too : path-rest rows b k ≡ row-at rows b k ∷ path-rest rows b (k + 1)
-        second-too = second-goes-on (λ z. some-weight (sym one-node ∙ z))
+        second-weight : v ≡ 0 → ⊥
+        second-weight z = some-weight (sym one-node ∙ z)
 
         one-weight : row-at rows a k .weight ≡ row-at rows b k .weight
         one-weight = sym read ∙ sym one-node ∙ read-second
 
         pub other-edge : (e ≡ d → ⊥) → parts (path-at rows a) (path-at rows b) ≡ true
         unfolding parts
-        other-edge differ = alike .same ∙ rw (first-goes-on, second-too, eq-eqb _ _ one-weight, ne-eqb _ _ (λ s. differ (read-edge ∙ s ∙ sym read-other)))
+        other-edge differ = alike .same ∙ rw (path-rest-row rows a k below read some-weight, path-rest-row rows b k below read-second second-weight, eq-eqb _ _ one-weight, ne-eqb _ _ (λ s. differ (read-edge ∙ s ∙ sym read-other)))
 
         pub same-edge : e ≡ d → Alike rows a b (k + 1)
         unfolding parts
         same-edge one-edge = record {
           within = omega arith;
-          same = alike .same ∙ rw (first-goes-on, second-too, eq-eqb _ _ one-weight, eq-eqb _ _ (sym read-edge ∙ one-edge ∙ read-other));
+          same = alike .same ∙ rw (path-rest-row rows a k below read some-weight, path-rest-row rows b k below read-second second-weight, eq-eqb _ _ one-weight, eq-eqb _ _ (sym read-edge ∙ one-edge ∙ read-other));
         }

@@ -1,18 +1,21 @@
--- The invariant of `same_node`'s loop: the two paths go through the same node exactly where what is left of them does.
+-- Laws of `same-node`, and the invariant of `same_node`'s loop: the two paths go through the same node exactly where what is left of them does.
 -- Assumes nothing.
-use Prim.Native.Nat.{ℕ, suc, _+_, _-_, _<_, _≤_, zero-le}
+use Prim.Native.Nat.{ℕ, zero, suc, _+_, _-_, _<_, _≤_, zero-le}
 use native.Mathlib.Omega.{arith}
-use native.Mathlib.Nat.{sub-zero}
-use mathlib.Core.Path.{_≡_, refl, sym, _∙_, subst}
+use native.Mathlib.Nat.{sub-zero, zero-lt-suc}
+use mathlib.Core.Path.{_≡_, refl, sym, _∙_, ap, subst}
 use mathlib.Core.Logic.{_⊎_, inl, inr}
-use mathlib.Core.Bool.{true, false, not}
+use mathlib.Core.Bool.{Bool, true, false, not, _&&_, false≢true}
 use mathlib.Core.List.{List, [], _∷_}
 use lib.Dec.{eqb}
+use lib.ListN.{length}
 use borrow.Author.Tests.{eq-eqb, ne-eqb}
 use Rattle.tree.specs.declared.Row.{Row}
 use Rattle.tree.specs.Record.{row-at, path-at}
-use Rattle.paths.specs.Rules.{same-node}
+use Rattle.paths.specs.Rules.{row-of, same-node}
+use Rattle.paths.proofs.AllBelow.{both-true}
 use Rattle.paths.proofs.PathRest.{zero-or-not, path-rest, path-rest-start, path-rest-row, path-rest-end}
+use Rattle.paths.proofs.PathRows.{row-in-path}
 
 pub record SameWay (rows : List ℕ) (a b l k : ℕ) : Type 0 where
   pub within : k ≤ l
@@ -23,6 +26,25 @@ pub same-node-none : (l : ℕ) (ps : List Row) → same-node l ps [] ≡ false
 unfolding same-node
 same-node-none l [] = refl
 same-node-none l (p ∷ ps) = refl
+
+-- two paths through a node go on there
+pub same-node-goes-on : (l : ℕ) (ps qs : List Row) → same-node l ps qs ≡ true → (l < length ps) × (l < length qs)
+unfolding same-node
+same-node-goes-on l [] qs h = absurd (false≢true h)
+same-node-goes-on l (p ∷ ps) [] h = absurd (false≢true h)
+same-node-goes-on zero (p ∷ ps) (q ∷ qs) h = (zero-lt-suc (length ps), zero-lt-suc (length qs))
+same-node-goes-on (suc l) (p ∷ ps) (q ∷ qs) h =
+    let later = same-node-goes-on l ps qs (both-true (eqb (p .edge) (q .edge)) (same-node l ps qs) h .1) in
+    omega arith
+
+-- d was read as line N's edge in row l: a test of the edge that N takes at the node is one of d
+pub edge-read : (rows : List ℕ) (ps : List Row) (l N : ℕ) {d : ℕ} → d ≡ row-at rows N l .edge → (test : ℕ → Bool) →
+    (same-node l ps (path-at rows N) && test (row-of l (path-at rows N) .edge)) ≡ (same-node l ps (path-at rows N) && test d)
+edge-read rows ps l N {d} read test = go (same-node l ps (path-at rows N)) refl
+  where
+    go : (b : Bool) → same-node l ps (path-at rows N) ≡ b → (b && test (row-of l (path-at rows N) .edge)) ≡ (b && test d)
+    go false apart = refl
+    go true through = ap (λ (r : Row). test (r .edge)) (row-in-path rows N (same-node-goes-on l ps (path-at rows N) through .1)) ∙ ap test (sym read)
 
 -- the loop has come to the level
 pub level-reached : {rows : List ℕ} {a b l k : ℕ} → SameWay rows a b l k → l ≤ k → SameWay rows a b l l
@@ -43,17 +65,11 @@ module _ {rows : List ℕ} {a b l k : ℕ} (way : SameWay rows a b l k) (below :
     second-path-ended zero-weight = way .same ∙ rw (path-rest-end rows b k below read-second zero-weight) (same-node-none (l - k) (path-rest rows a k))
 
     module _ (some-weight : w ≡ 0 → ⊥) (second-weight : v ≡ 0 → ⊥) where
-      first-goes-on : path-rest rows a k ≡ row-at rows a k ∷ path-rest rows a (k + 1)
-      first-goes-on = path-rest-row rows a k below read some-weight
-
-      second-goes-on : path-rest rows b k ≡ row-at rows b k ∷ path-rest rows b (k + 1)
-      second-goes-on = path-rest-row rows b k below read-second second-weight
-
       both-go-on : l ≤ k → same-node l (path-at rows a) (path-at rows b) ≡ true
       unfolding same-node
       both-go-on past =
           let none-left : l - k ≡ 0 = omega arith in
-          way .same ∙ rw (none-left, first-goes-on, second-goes-on)
+          way .same ∙ rw (none-left, path-rest-row rows a k below read some-weight, path-rest-row rows b k below read-second second-weight)
 
       -- above the level, e and d were read as their edges
       module _ (above : k < l) {e d : ℕ} (read-edge : e ≡ row-at rows a k .edge) (read-other : d ≡ row-at rows b k .edge) where
@@ -62,13 +78,13 @@ module _ {rows : List ℕ} {a b l k : ℕ} (way : SameWay rows a b l k) (below :
 
         pub ways-differ : (e ≡ d → ⊥) → same-node l (path-at rows a) (path-at rows b) ≡ false
         unfolding same-node
-        ways-differ differ = way .same ∙ rw (one-more, first-goes-on, second-goes-on, ne-eqb _ _ (λ s. differ (read-edge ∙ s ∙ sym read-other)))
+        ways-differ differ = way .same ∙ rw (one-more, path-rest-row rows a k below read some-weight, path-rest-row rows b k below read-second second-weight, ne-eqb _ _ (λ s. differ (read-edge ∙ s ∙ sym read-other)))
 
         pub same-way-more : e ≡ d → SameWay rows a b l (k + 1)
         unfolding same-node
         same-way-more one-edge = record {
           within = omega arith;
-          same = way .same ∙ rw (one-more, first-goes-on, second-goes-on, eq-eqb _ _ (sym read-edge ∙ one-edge ∙ read-other));
+          same = way .same ∙ rw (one-more, path-rest-row rows a k below read some-weight, path-rest-row rows b k below read-second second-weight, eq-eqb _ _ (sym read-edge ∙ one-edge ∙ read-other));
         }
 
     -- at the level itself, where the first path goes on, the second one's weight decides

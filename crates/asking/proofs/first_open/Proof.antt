@@ -1,23 +1,23 @@
--- `asking::first_open` meets its contract. The invariant: no line passed is open (`Missed`). The measure is how many of the 64 lines are left.
+-- `asking::first_open` meets its contract. The invariant: no line passed is open (`NoneBelow`). The measure is how many of the 64 lines are left.
 -- Assumes nothing.
 use Prim.Native.Nat.{_-_}
 use mathlib.Core.Path.{sym, _∙_, ap}
 use mathlib.Core.Bool.{not}
 use borrow.Author.Needs.{needs}
 use Rattle.tree.specs.Record.{path-at, no-rows}
+use Rattle.paths.proofs.NoneBelow.{NoneBelow, none-below-start, none-below-more, smallest-nowhere, smallest-here}
 use Rattle.asking.specs.Answers.{first-open}
-use Rattle.asking.proofs.FirstHit.{Missed, missed-none, missed-more, missed-all, first-hit}
 use Rattle.asking.proofs.first_open.Statement.{statement}
 use Rattle.asking.proofs.first_open.Tie as tie
 
 abbrev Inv-loop : tie.InvT-loop
-Inv-loop rows line₀ line = Missed 64 (λ M. not (no-rows (path-at rows M))) line
+Inv-loop rows line₀ line = NoneBelow 64 (λ M. not (no-rows (path-at rows M))) line
 
 abbrev μ-loop : tie.MeasureT-loop
 μ-loop rows line₀ line = 64 - line
 
 loop-holds : tie.Need-loop-holds Inv-loop μ-loop
-loop-holds c = missed-none _ _
+loop-holds c = none-below-start _ _
 
 is-closed-requires : tie.Need-is-closed-requires Inv-loop μ-loop
 is-closed-requires c κs = search needs
@@ -26,7 +26,7 @@ returns : tie.Need-returns Inv-loop μ-loop
 unfolding first-open
 returns c =
     let in-loop = c .before .before in
-    sym (first-hit (in-loop .before .loop .inv) (in-loop .loop-test .taken) (ap not (sym (c .before .is-closed .ensures)) ∙ c .if1 .taken))
+    sym (smallest-here (in-loop .before .loop .inv) (in-loop .loop-test .taken) (ap not (sym (c .before .is-closed .ensures)) ∙ c .if1 .taken))
 
 add-line : tie.Need-add-line Inv-loop μ-loop
 add-line c = search needs
@@ -37,11 +37,11 @@ loop-less c = search needs
 loop-again : tie.Need-loop-again Inv-loop μ-loop
 loop-again c =
     let in-loop = c .before .before in
-    missed-more (in-loop .before .loop .inv) (in-loop .loop-test .taken) (ap not (sym (c .before .is-closed .ensures)) ∙ c .if1 .left)
+    none-below-more (in-loop .before .loop .inv) (in-loop .loop-test .taken) (ap not (sym (c .before .is-closed .ensures)) ∙ c .if1 .left)
 
 returns-2 : tie.Need-returns-2 Inv-loop μ-loop
 unfolding first-open
-returns-2 c = sym (missed-all (c .before .loop .inv) (c .loop-test .left))
+returns-2 c = sym (smallest-nowhere (c .before .loop .inv) (c .loop-test .left))
 
 pub first-open-spec : {M : Type 1} → statement M
 first-open-spec =

@@ -3,7 +3,8 @@
 use Prim.Native.Nat.{_-_}
 use mathlib.Core.Logic.{⊎-elim}
 use borrow.Author.Needs.{needs}
-use Rattle.booking.proofs.SplitNode.{level-below-11, SplitBelow, split-below-none, split-below-other, split-below-more, split-below-all, through-splittable}
+use Rattle.paths.proofs.PathRows.{within-path}
+use Rattle.booking.proofs.SplitNode.{SplitBelow, split-below-none, split-below-other, split-below-more, split-below-all, through-splittable}
 use Rattle.booking.proofs.split_node.Statement.{statement}
 use Rattle.booking.proofs.split_node.Tie as tie
 
@@ -22,7 +23,7 @@ loop-holds c = split-below-none (c .whole .ensures) (c .before .before .pre)
 same-node-requires : tie.Need-same-node-requires Inv-loop μ-loop
 same-node-requires c κs =
     let pre = c .before .before .before .before .before .pre in
-    (pre .line-below-64, c .before .loop-test .taken, level-below-11 pre)
+    (pre .line-below-64, c .before .loop-test .taken, within-path _ _ (pre .on-path))
 
 split-line-requires : tie.Need-split-line-requires Inv-loop μ-loop
 split-line-requires c κs =

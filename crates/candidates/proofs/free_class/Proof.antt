@@ -7,7 +7,7 @@ use mathlib.Core.Logic.{⊎-elim}
 use native.Mathlib.Omega.{arith}
 use borrow.Author.Needs.{needs}
 use Rattle.candidates.specs.Answers.{class-of}
-use Rattle.candidates.proofs.NoneBelow.{none-below-start}
+use Rattle.paths.proofs.NoneBelow.{none-below-start}
 use Rattle.candidates.proofs.FreeClass.{Classes, Lines, lines-start, other-class, other-node, class-passed, class-free, no-class-free}
 use Rattle.candidates.proofs.free_class.Statement.{statement}
 use Rattle.candidates.proofs.free_class.Tie as tie

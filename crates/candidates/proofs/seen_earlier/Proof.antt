@@ -3,7 +3,7 @@
 use Prim.Native.Nat.{_-_}
 use mathlib.Core.Path.{sym}
 use borrow.Author.Needs.{needs}
-use Rattle.candidates.proofs.NoneBelow.{none-below-start}
+use Rattle.paths.proofs.NoneBelow.{none-below-start}
 use Rattle.candidates.proofs.SeenEarlier.{Unseen, unseen-more, seen-there, unseen-all}
 use Rattle.candidates.proofs.seen_earlier.Statement.{statement}
 use Rattle.candidates.proofs.seen_earlier.Tie as tie

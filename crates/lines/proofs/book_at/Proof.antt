@@ -3,8 +3,9 @@
 use native.Mathlib.Omega.{arith}
 use mathlib.Core.Path.{refl}
 use borrow.Author.Needs.{needs}
+use Rattle.bridge.proofs.CallsOnRecords.{open-booked-on}
 use Rattle.lines.specs.Answers.{open-answer}
-use Rattle.lines.proofs.OpenLine.{open-booked, product-fits, product-not-zero, start-fits, spot-splittable, spot-placeable, placed-is-booked}
+use Rattle.lines.proofs.OpenLine.{product-fits, product-not-zero, start-fits, spot-splittable, spot-placeable, placed-is-booked}
 use Rattle.lines.proofs.book_at.Statement.{statement}
 use Rattle.lines.proofs.book_at.Tie as tie
 
@@ -41,8 +42,9 @@ returns c =
     let after-split = c .before .before in
     let after-whole = after-split .before .before .before in
     let at-start = after-whole .before .before in
+    let ready = at-start .pre .bookable in
     rw (c .place-line .ensures, after-split .split-if-smaller .ensures, placed-is-booked _ _ _ _ (at-start .pre) (after-whole .whole .ensures) _ refl)
-    (open-booked _ _ _ _ (at-start .pre) (after-whole .whole .ensures))
+    (open-booked-on _ (ready .is-legal) (after-whole .whole .ensures) _ _ (ready .number) (ready .inside) (ready .absent) _ (at-start .pre .found-one))
 
 pub book-at-spec : {M : Type 1} → statement M
 book-at-spec =

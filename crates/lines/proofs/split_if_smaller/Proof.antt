@@ -1,14 +1,15 @@
 -- `lines::split_if_smaller` meets its contract, by the test of the divisor against the weight.
 -- Assumes nothing.
 use mathlib.Core.Path.{sym, _∙_}
-use Rattle.lines.proofs.SplitIfSmaller.{level-below-11, smaller-than-weight, split-smaller, split-not-smaller}
+use Rattle.paths.proofs.PathRows.{within-path}
+use Rattle.lines.proofs.SplitIfSmaller.{smaller-than-weight, split-smaller, split-not-smaller}
 use Rattle.lines.proofs.split_if_smaller.Statement.{statement}
 use Rattle.lines.proofs.split_if_smaller.Tie as tie
 
 weight-requires : tie.Need-weight-requires
 weight-requires c κs =
     let ready = c .before .pre in
-    (ready .line-below, level-below-11 _ _ _ (ready .on-path))
+    (ready .line-below, within-path _ _ (ready .on-path))
 
 split-node-requires : tie.Need-split-node-requires
 split-node-requires c κs =

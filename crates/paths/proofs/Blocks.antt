@@ -1,21 +1,19 @@
--- The numbers of a plan record by blocks of 22, a line's block its 11 rows: what set-line writes, what recordOf holds, and that the blocks
--- are the whole record.
+-- The numbers of a plan record by blocks of 22, a line's block its 11 rows: the rows in it, what set-line writes, and that the blocks are
+-- the whole record.
 -- Assumes nothing.
 use Prim.Native.Nat.{ℕ, zero, suc, _+_, _-_, _*_, _≤_, _<_}
 use native.Mathlib.Omega.{arith}
-use native.Mathlib.Nat.{mul-suc, add-sub-of-le}
+use native.Mathlib.Nat.{mul-suc, add-sub-of-le, add-assoc}
 use native.Mathlib.Decide.{decLt}
 use mathlib.Core.Path.{_≡_, refl, sym, ap, ap₂, _∙_}
-use mathlib.Core.Logic.{inl, inr}
-use mathlib.Core.List.{List, [], _∷_, _++_, append-assoc}
-use lib.ListN.{length, take, drop, replicate, length-append, length-drop, take-append-drop}
-use lib.Seq.{length-take-le, take-all, take-append-le, drop-append-le, take-at, drop-at, drop-drop, take-add}
+use mathlib.Core.List.{List, _++_, append-assoc}
+use lib.ListN.{length, getD, take, drop, length-append, length-drop, take-append-drop}
+use lib.Seq.{length-take-le, take-all, take-append-le, drop-append-le, take-at, drop-at, drop-drop, take-add, getD-take, getD-drop}
 use Rattle.tree.specs.declared.Row.{Row}
-use Rattle.tree.specs.Tree.{Tree, row, path-of}
 use Rattle.tree.specs.Asking.{rows-11}
-use Rattle.tree.specs.Record.{numbers, numbers-below, recordOf}
-use Rattle.paths.specs.Rules.{set-line}
-use Rattle.tree.proofs.Searching.{last-or-below}
+use Rattle.tree.specs.Record.{row-at, numbers}
+use Rattle.paths.specs.Rules.{row-of, set-line}
+use Rattle.paths.proofs.RowLaws.{row-in, row-in-numbers, numbers-length, rows-11-length, rows-11-row}
 
 -- the 22 numbers of line L
 unfoldable pub block : List ℕ → ℕ → List ℕ
@@ -25,19 +23,24 @@ pub block-length : (rows : List ℕ) (L : ℕ) → L < 64 → length rows ≡ 14
 unfolding block
 block-length rows L below size = length-take-le 22 (drop (22 * L) rows) (simp length-drop (omega arith))
 
--- How long a path's rows are
-
-pub numbers-length : (rs : List Row) → length (numbers rs) ≡ 2 * length rs
-unfolding numbers
-numbers-length [] = refl
-numbers-length (r ∷ rs) = omega (arith, numbers-length rs)
-
-pub rows-11-length : (rs : List Row) → length (rows-11 rs) ≡ 11
-unfolding rows-11
-rows-11-length rs = length-take-le 11 (rs ++ replicate 11 (row 0 0)) (simp length-append (omega arith))
-
 pub block-of-path-length : (rs : List Row) → length (numbers (rows-11 rs)) ≡ 22
 block-of-path-length rs = omega (arith, numbers-length (rows-11 rs), rows-11-length rs)
+
+-- A line's rows are in its block
+
+number-in-block : (rows : List ℕ) (L i : ℕ) → i < 22 → getD (block rows L) i 0 ≡ getD rows (22 * L + i) 0
+unfolding block
+number-in-block rows L i within = getD-take 22 (drop (22 * L) rows) i 0 within ∙ getD-drop (22 * L) rows i 0
+
+pub row-at-in-block : (rows : List ℕ) (L k : ℕ) → k < 11 → row-at rows L k ≡ row-in (block rows L) k
+unfolding row-at row-in
+row-at-in-block rows L k within =
+    cc (number-in-block rows L (2 * k) (omega arith), number-in-block rows L (2 * k + 1) (omega arith), add-assoc (22 * L) (2 * k) 1)
+
+-- where the block is a path's, so are the rows
+pub row-at-of-block : (rows : List ℕ) (L : ℕ) (rs : List Row) → block rows L ≡ numbers (rows-11 rs) → (k : ℕ) → k < 11 → row-at rows L k ≡ row-of k rs
+row-at-of-block rows L rs here k within =
+    row-at-in-block rows L k within ∙ ap (λ (b : List ℕ). row-in b k) here ∙ row-in-numbers (rows-11 rs) k ∙ rows-11-row rs k within
 
 -- Blocks of two lists joined
 
@@ -45,11 +48,11 @@ block-between : (xs b ys : List ℕ) (L : ℕ) → length xs ≡ 22 * L → leng
 unfolding block
 block-between xs b ys L here size = rw (drop-at xs (b ++ ys) (22 * L) here) (take-at b ys 22 size)
 
-block-at-end : (xs b : List ℕ) (L : ℕ) → length xs ≡ 22 * L → length b ≡ 22 → block (xs ++ b) L ≡ b
+pub block-at-end : (xs b : List ℕ) (L : ℕ) → length xs ≡ 22 * L → length b ≡ 22 → block (xs ++ b) L ≡ b
 unfolding block
 block-at-end xs b L here size = rw (drop-at xs b (22 * L) here) (take-all 22 b (omega arith))
 
-block-of-front : (xs ys : List ℕ) (M : ℕ) → 22 * M + 22 ≤ length xs → block (xs ++ ys) M ≡ block xs M
+pub block-of-front : (xs ys : List ℕ) (M : ℕ) → 22 * M + 22 ≤ length xs → block (xs ++ ys) M ≡ block xs M
 unfolding block
 block-of-front xs ys M within =
     rw (drop-append-le (22 * M) xs ys (omega arith)) (take-append-le 22 (drop (22 * M) xs) ys (simp length-drop (omega arith)))
@@ -113,27 +116,3 @@ fronts-by-blocks xs ys same (suc n) within =
 pub rows-by-blocks : (xs ys : List ℕ) → length xs ≡ 1408 → length ys ≡ 1408 → ((L : ℕ) → L < 64 → block xs L ≡ block ys L) → xs ≡ ys
 rows-by-blocks xs ys long-xs long-ys same =
     sym (take-all 1408 xs (omega arith)) ∙ fronts-by-blocks xs ys same 64 (omega arith) ∙ take-all 1408 ys (omega arith)
-
--- What the record of a tree holds
-
-numbers-below-length : (n : ℕ) (t : Tree) → length (numbers-below n t) ≡ 22 * n
-unfolding numbers-below
-numbers-below-length zero t = refl
-numbers-below-length (suc n) t = simp length-append (omega (arith, numbers-below-length n t, block-of-path-length (path-of n t)))
-
-block-of-numbers-below : (n : ℕ) (t : Tree) (L : ℕ) → L < n → block (numbers-below n t) L ≡ numbers (rows-11 (path-of L t))
-unfolding numbers-below
-block-of-numbers-below zero t L below = absurd (omega arith)
-block-of-numbers-below (suc n) t L below =
-    elim (last-or-below L n below) [
-      | inl e ↦ rw e (block-at-end (numbers-below n t) _ n (numbers-below-length n t) (block-of-path-length (path-of n t)))
-      | inr k ↦ block-of-front (numbers-below n t) _ L (omega (arith, numbers-below-length n t)) ∙ block-of-numbers-below n t L k
-    ]
-
-pub record-length : (t : Tree) → length (recordOf t .rows) ≡ 1408
-unfolding recordOf
-record-length t = numbers-below-length 64 t
-
-pub block-of-record : (t : Tree) (L : ℕ) → L < 64 → block (recordOf t .rows) L ≡ numbers (rows-11 (path-of L t))
-unfolding recordOf
-block-of-record t L below = block-of-numbers-below 64 t L below
