@@ -4,13 +4,16 @@ use Prim.Native.Nat.{ℕ}
 use mathlib.Core.Path.{_≡_, refl, _∙_, ap}
 use mathlib.Core.List.{List}
 use mathlib.Core.Option.{Option}
+use lib.ListN.{length}
 use Rattle.tree.specs.declared.Plan.{Plan}
 use Rattle.tree.specs.Asking.{owner}
 use Rattle.tree.specs.Calls.{Call, Answer, Outcome, gives, refuses}
 use Rattle.tree.specs.Record.{treeOf}
 use Rattle.plan.specs.Meets.{Meets}
+use Rattle.lists.specs.Lists.{list-refusal}
+use Rattle.lists.specs.Runs.{ListRan}
 use Rattle.gaplinte.specs.Answer.{answer-number, Answers, Leaves}
-use Rattle.gaplinte.specs.Served.{plan-of, Whole, change-outcome, ChangeServed, line-or-64, OwnerServed}
+use Rattle.gaplinte.specs.Served.{plan-of, Whole, change-outcome, ChangeServed, line-or-64, OwnerServed, list-outcome, ListServed}
 
 -- Right lengths and wrong ones
 
@@ -50,3 +53,19 @@ pub owner-served : (rows : List ℕ) (round : ℕ) (plan : Plan) (o : Option ℕ
 unfolding answer-number
 owner-served rows round plan o r whole copied asked told =
     record { answers = fits-answers _ _ _ whole (told ∙ ap line-or-64 (rw copied at asked)) }
+
+-- A list of orders
+
+pub list-wrong : (rows orders lent : List ℕ) → (Whole rows → ⊥) → ListServed rows orders lent rows lent (answer-number (refuses 255))
+list-wrong rows orders lent wrong = record { answers = wrong-answers _ _ wrong; rows = wrong-leaves _ _ _ wrong; bytes = wrong-leaves _ _ _ wrong }
+
+pub list-served : (before orders lent after written : List ℕ) (o : Option ℕ) (plan next : Plan) (r : ℕ) →
+    Whole before → plan ≡ plan-of before → ListRan plan orders lent o next written → after ≡ next .rows → r ≡ answer-number (list-outcome o) →
+    ListServed before orders lent after written r
+list-served before orders lent after written o plan next r whole copied ran kept told =
+    let made = rw copied at ran in
+    record {
+      answers = fits-answers _ _ _ whole (told ∙ ap (λ (q : Option ℕ). answer-number (list-outcome q)) (made .refusal-is));
+      rows = fits-leaves _ _ _ _ whole (kept ∙ ap (λ (p : Plan). p .rows) (made .plan-is));
+      bytes = fits-leaves _ _ _ _ whole (made .bytes-are);
+    }

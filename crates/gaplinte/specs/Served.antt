@@ -7,9 +7,11 @@ use mathlib.Core.Option.{Option, none, some}
 use lib.ListN.{length}
 use Rattle.tree.specs.declared.Plan.{Plan}
 use Rattle.tree.specs.Asking.{owner}
-use Rattle.tree.specs.Calls.{Call, Answer, booked, done, refused, answer, Outcome, gives, refuses}
+use Rattle.tree.specs.Calls.{Call, Answer, booked, done, refused, answer, Outcome, gives, refuses, gives-unless}
 use Rattle.tree.specs.Record.{treeOf}
 use Rattle.plan.specs.Meets.{plan-after}
+use Rattle.lists.specs.Lists.{list-refusal}
+use Rattle.lists.specs.Runs.{plan-after-list, bytes-after-list}
 use Rattle.gaplinte.specs.Answer.{Answers, Leaves}
 
 -- the plan whose record a slice is
@@ -41,3 +43,14 @@ line-or-64 none = 64
 
 pub record OwnerServed (rows : List ℕ) (round r : ℕ) : Type 0 where
   pub answers : Answers (Whole rows) (gives (line-or-64 (owner round (treeOf (plan-of rows))))) r
+
+-- A list of orders
+
+-- the value of a list that is not refused is 0
+unfoldable pub list-outcome : Option ℕ → Outcome ℕ
+list-outcome o = gives-unless o 0
+
+pub record ListServed (before orders lent after written : List ℕ) (r : ℕ) : Type 0 where
+  pub answers : Answers (Whole before) (list-outcome (list-refusal (length orders) (length lent))) r
+  pub rows : Leaves (Whole before) before (plan-after-list (list-refusal (length orders) (length lent)) (plan-of before) orders .rows) after
+  pub bytes : Leaves (Whole before) lent (bytes-after-list (list-refusal (length orders) (length lent)) (plan-of before) orders lent) written

@@ -4,4 +4,5 @@
 mod answers;
 pub mod ask;
 pub mod change;
+pub mod list;
 mod rows;
