@@ -9,7 +9,6 @@ use crate::answers::WRONG_LENGTH;
 use crate::rows;
 use lines::CloseAnswer;
 use lines::OpenAnswer;
-use tree::Period;
 
 // The number that stands for an open's answer.
 fn open_number(answer: OpenAnswer) -> u64
@@ -31,15 +30,16 @@ fn close_number(answer: CloseAnswer) -> u64
     }
 }
 
-// Opens a line in the plan that the slice holds.
+// Opens a line in the plan that the slice holds. A period of any size is checked whole, so that none is cut to 16 bits.
 #[no_mangle]
-pub extern "C" fn gaplinte_open(rows: &mut [u16], line: u64, period: u16) -> u64
+pub extern "C" fn gaplinte_open(rows: &mut [u16], line: u64, period: u64) -> u64
     ensures { λ r. ⌜ ChangeServed (open-line line period) (now (rows .entry)) (now (rows .exit)) r ⌝ }
 {
     if rows.len() != 1408 {
         return WRONG_LENGTH;
     }
-    let opening = plan::change::open(rows::copy_in(rows), line, Period(period));
+    let asked = history::period_asked(period);
+    let opening = plan::change::open(rows::copy_in(rows), line, asked);
     let answer = opening.answer;
     rows::copy_out(opening.plan, rows);
     open_number(answer)

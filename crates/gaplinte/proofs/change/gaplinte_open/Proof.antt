@@ -1,6 +1,7 @@
--- `gaplinte::change::gaplinte_open` meets its contract: the slice has another length, or `plan::change::open` is called on its record.
+-- `gaplinte::change::gaplinte_open` meets its contract: the slice has a wrong length, or `plan::change::open` is called on its record.
 -- Assumes nothing.
 use borrow.Author.Needs.{needs}
+use Rattle.history.proofs.Replaying.{period-stands-for}
 use Rattle.gaplinte.specs.Answer.{answer-number}
 use Rattle.gaplinte.proofs.Serving.{change-wrong, change-served}
 use Rattle.gaplinte.proofs.change.gaplinte_open.Statement.{statement}
@@ -9,6 +10,9 @@ use Rattle.gaplinte.proofs.change.gaplinte_open.Tie as tie
 returns : tie.Need-returns
 unfolding answer-number
 returns c = change-wrong _ _ (c .if1 .taken)
+
+period-asked-requires : tie.Need-period-asked-requires
+period-asked-requires c κs = search needs
 
 copy-in-requires : tie.Need-copy-in-requires
 copy-in-requires c κs = search needs
@@ -30,14 +34,16 @@ returns-2 c =
     let written = c .before .before .before in
     let called = written .before .before in
     let copied = called .before in
-    let whole = copied .before .before .if1 .left in
-    change-served _ _ _ _ _ _ _ whole (copied .copy-in .ensures) (called .open .ensures) (written .copy-out .ensures) (c .open-number .ensures)
+    let asked = copied .before .before in
+    let meets = period-stands-for _ _ _ _ _ (rw (asked .period-asked .ensures) at (called .open .ensures)) in
+    change-served _ _ _ _ _ _ _ (asked .before .if1 .left) (copied .copy-in .ensures) meets (written .copy-out .ensures) (c .open-number .ensures)
 
 pub gaplinte-open-spec : {M : Type 1} → statement M
 gaplinte-open-spec =
     tie.close
     (tie.spec
     returns
+    period-asked-requires
     copy-in-requires
     open-requires
     copy-out-requires
