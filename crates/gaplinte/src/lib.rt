@@ -6,3 +6,4 @@ pub mod ask;
 pub mod change;
 pub mod list;
 mod rows;
+pub mod walk;
