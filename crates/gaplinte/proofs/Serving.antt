@@ -7,8 +7,8 @@ use mathlib.Core.List.{List, [], _∷_}
 use mathlib.Core.Option.{Option}
 use lib.ListN.{length, set}
 use Rattle.tree.specs.declared.Plan.{Plan}
-use Rattle.tree.specs.Asking.{owner}
-use Rattle.tree.specs.Calls.{Call, Answer, Outcome, gives, refuses, turns-outcome}
+use Rattle.tree.specs.Asking.{owner, Shown}
+use Rattle.tree.specs.Calls.{Call, Answer, Outcome, gives, refuses, show-outcome, turns-outcome}
 use Rattle.tree.specs.Record.{treeOf}
 use Rattle.plan.specs.declared.walker.WalkerPlace.{WalkerPlace}
 use Rattle.plan.specs.declared.walker.WalkAnswer.{WalkAnswer}
@@ -16,8 +16,8 @@ use Rattle.plan.specs.Meets.{Meets}
 use Rattle.plan.specs.Walker.{walk-answer, WalkedOn}
 use Rattle.lists.specs.Lists.{list-refusal}
 use Rattle.lists.specs.Runs.{ListRan}
-use Rattle.gaplinte.specs.Answer.{answer-number, Answers, Leaves}
-use Rattle.gaplinte.specs.Served.{plan-of, Whole, change-outcome, ChangeServed, line-or-64, OwnerServed, list-outcome, ListServed, TurnsServed, line-number, place-of, place-numbers, WalkServed}
+use Rattle.gaplinte.specs.Answer.{answer-number, zero-value, numbers-or, Answers, Leaves}
+use Rattle.gaplinte.specs.Served.{plan-of, Whole, change-outcome, ChangeServed, line-or-64, OwnerServed, list-outcome, ListServed, TurnsServed, shown-numbers, ShowServed, line-number, place-of, place-numbers, WalkServed}
 
 -- Right lengths and wrong ones
 
@@ -83,6 +83,31 @@ pub turns-served : (rows : List ℕ) (L N : ℕ) (plan : Plan) (o : Outcome ℕ)
     Whole rows → plan ≡ plan-of rows → o ≡ turns-outcome L N (treeOf plan) → r ≡ answer-number o → TurnsServed rows L N r
 turns-served rows L N plan o r whole copied asked told =
     record { answers = fits-answers _ _ _ whole (told ∙ ap answer-number (rw copied at asked)) }
+
+-- Show
+
+module _ (rows : List ℕ) (L : ℕ) (lent : List ℕ) where
+  pub show-wrong : ((Whole rows × (length lent ≡ 24)) → ⊥) → ShowServed rows L lent lent (answer-number (refuses 255))
+  show-wrong wrong = record { answers = wrong-answers _ _ wrong; shown = wrong-leaves _ _ _ wrong }
+
+  module _ (plan : Plan) (fit : Whole rows × (length lent ≡ 24)) (copied : plan ≡ plan-of rows) where
+    pub shown-served : (after : List ℕ) (s : Shown) → gives s ≡ show-outcome L (treeOf plan) → after ≡ shown-numbers s → ShowServed rows L lent after 0
+    unfolding answer-number zero-value numbers-or
+    shown-served after s asked written =
+        let made = rw copied at asked in
+        record {
+          answers = fits-answers _ _ _ fit (ap (λ (o : Outcome Shown). answer-number (zero-value o)) made);
+          shown = fits-leaves _ _ _ _ fit (written ∙ ap (numbers-or shown-numbers lent) made);
+        }
+
+    pub show-refused : (n r : ℕ) → refuses n ≡ show-outcome L (treeOf plan) → r ≡ answer-number (refuses n) → ShowServed rows L lent lent r
+    unfolding zero-value numbers-or
+    show-refused n r asked told =
+        let made = rw copied at asked in
+        record {
+          answers = fits-answers _ _ _ fit (told ∙ ap (λ (o : Outcome Shown). answer-number (zero-value o)) made);
+          shown = fits-leaves _ _ _ _ fit (ap (numbers-or shown-numbers lent) made);
+        }
 
 -- The walker
 
