@@ -8,6 +8,7 @@ ghost use Rattle.tree.specs.Record.{path-at, legal};
 ghost use Rattle.paths.specs.Rules.{class-on-path, spot-with, spot-at, better-spot, best-on-path, best-of-lines};
 ghost use Rattle.candidates.specs.Answers.{class-of, spot-of, comes-first, seen-earlier, Reached};
 use paths::edge;
+use paths::is_closed;
 use paths::path_length;
 use paths::same_node;
 use paths::weight;
@@ -168,13 +169,16 @@ fn best_on_path(rows: &[u16; 1408], line: usize, period: u16, earlier: Chosen) -
     best
 }
 
-// The chosen candidate for a period.
+// The chosen candidate for a period. A closed line is passed without a copy of the best so far.
 pub fn best_candidate(rows: &[u16; 1408], period: u16) -> Chosen
     requires { ⌜ legal (now rows) ≡ true ⌝ }
     ensures { λ r. ⌜ spot-of r ≡ best-of-lines (path-at (now (rows .entry))) period 64 ⌝ }
 {
     let mut best = Chosen::Nothing;
     for line in 0..64 {
+        if is_closed(rows, line) {
+            continue;
+        }
         best = best_on_path(rows, line, period, best);
     }
     best

@@ -3,12 +3,13 @@
 use Prim.Native.Nat.{ℕ, _<_}
 use native.Mathlib.Omega.{arith}
 use mathlib.Core.Path.{_≡_, refl, sym, _∙_}
-use mathlib.Core.Bool.{Bool, true, false, _&&_, or-true}
-use mathlib.Core.List.{List}
+use mathlib.Core.Bool.{Bool, true, false, _&&_, or-true, and-true, false≢true}
+use mathlib.Core.List.{List, [], _∷_}
 use lib.ListN.{length}
 use Rattle.tree.specs.declared.Row.{Row}
 use Rattle.tree.specs.Search.{if_then_else_, all-below}
-use Rattle.tree.specs.Record.{path-at, path-in-range, rest-unused, no-rows, parts, together, legal}
+use Rattle.tree.specs.Tree.{product}
+use Rattle.tree.specs.Record.{path-at, alone, rows-in-range, path-in-range, rest-unused, no-rows, parts, together, legal}
 use Rattle.paths.specs.declared.Checked.the-variants.{Rows, Fault}
 use Rattle.paths.specs.Answers.{path-checked, joins-earlier, line-legal}
 use Rattle.tree.proofs.Searching.{all-below-at, all-below-each}
@@ -75,7 +76,17 @@ pub path-right : (rs : List Row) (n : ℕ) → path-checked rs ≡ Rows n → (p
 unfolding path-checked
 path-right rs n h = right (path-in-range rs) (length rs) n h
 
+closed-in-range : (rs : List Row) → no-rows rs ≡ true → path-in-range rs ≡ true
+unfolding no-rows path-in-range alone rows-in-range product
+closed-in-range [] h = refl
+closed-in-range (r ∷ rs) h = absurd (false≢true h)
+
 module _ (rows : List ℕ) (L : ℕ) where
+  -- a closed line
+  pub line-closed : no-rows (path-at rows L) ≡ true → line-legal rows L ≡ rest-unused rows L
+  unfolding line-legal
+  line-closed h = rw (closed-in-range (path-at rows L) h, closed-joins rows L h, and-true)
+
   pub line-fault : path-checked (path-at rows L) ≡ Fault → line-legal rows L ≡ false
   unfolding line-legal
   line-fault h = rw (path-fault _ h)

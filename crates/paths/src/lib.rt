@@ -1,7 +1,8 @@
 // The paths of a plan record, read from its lent array, and the check that the record is a tree.
 // Row k of line L is the pair of numbers at 22 * L + 2 * k; a path is a line's rows up to the first of weight 0.
 ghost use mathlib.Core.Path.{_≡_};
-ghost use Prim.Native.Nat.{_<_};
+ghost use mathlib.Core.Bool.{true};
+ghost use Prim.Native.Nat.{_+_, _<_, _≤_};
 ghost use lib.ListN.{length};
 ghost use Rattle.tree.specs.Record.{row-at, path-at, rest-unused, no-rows, parts, together, legal};
 ghost use Rattle.paths.specs.Rules.{same-node};
@@ -190,6 +191,15 @@ fn check_path(rows: &[u16; 1408], line: usize) -> Checked
     Checked::Rows(1)
 }
 
+// The sum of a row's two numbers. It is 0 exactly where both are, and one test serves for both.
+fn row_sum(rows: &[u16; 1408], line: usize, k: usize) -> u32
+    requires { ⌜ (line < 64) × (k < 11) ⌝ }
+    ensures { λ r. ⌜ r ≡ row-at (now (rows .entry)) line k .weight + row-at (now (rows .entry)) line k .edge ⌝ }
+    ensures { λ r. ⌜ r ≤ 131070 ⌝ }
+{
+    weight(rows, line, k) as u32 + edge(rows, line, k) as u32
+}
+
 // The rows of a line after its path are 0 and 0. The path has `count` rows.
 fn rest_unused(rows: &[u16; 1408], line: usize, count: usize) -> bool
     requires { ⌜ (line < 64) × (count ≡ length (path-at (now rows) line)) ⌝ }
@@ -197,15 +207,27 @@ fn rest_unused(rows: &[u16; 1408], line: usize, count: usize) -> bool
 {
     let mut k = count;
     while k < 11 {
-        if weight(rows, line, k) != 0 {
-            return false;
-        }
-        if edge(rows, line, k) != 0 {
+        if row_sum(rows, line, k) != 0 {
             return false;
         }
         k += 1;
     }
     true
+}
+
+// The rows of a closed line are 0 and 0. They are summed up before the one test, so that the loop always has 11 turns
+// and its rows are read several at a time.
+fn closed_unused(rows: &[u16; 1408], line: usize) -> bool
+    requires { ⌜ (line < 64) × (no-rows (path-at (now rows) line) ≡ true) ⌝ }
+    ensures { λ r. ⌜ r ≡ rest-unused (now (rows .entry)) line ⌝ }
+{
+    let mut sum: u32 = 0;
+    let mut k = 0;
+    while k < 11 {
+        sum += row_sum(rows, line, k);
+        k += 1;
+    }
+    sum == 0
 }
 
 // A line goes together with each line of a smaller number.
@@ -231,6 +253,9 @@ fn line_legal(rows: &[u16; 1408], line: usize) -> bool
     requires { ⌜ line < 64 ⌝ }
     ensures { λ r. ⌜ r ≡ line-legal (now (rows .entry)) line ⌝ }
 {
+    if is_closed(rows, line) {
+        return closed_unused(rows, line);
+    }
     let checked = check_path(rows, line);
     let Checked::Rows(count) = checked else {
         return false;

@@ -2,8 +2,9 @@
 -- Assumes nothing.
 use Prim.Native.Nat.{_-_}
 use native.Mathlib.Omega.{arith}
+use mathlib.Core.Path.{sym, _∙_}
 use borrow.Author.Needs.{needs}
-use Rattle.candidates.proofs.BestOnPath.{BestOf, best-of-none, best-of-more, best-of-all}
+use Rattle.candidates.proofs.BestOnPath.{BestOf, best-of-none, best-of-more, best-of-closed, best-of-all}
 use Rattle.candidates.proofs.best_candidate.Statement.{statement}
 use Rattle.candidates.proofs.best_candidate.Tie as tie
 
@@ -16,8 +17,8 @@ abbrev μ-loop : tie.MeasureT-loop
 loop-holds : tie.Need-loop-holds Inv-loop μ-loop
 loop-holds c = best-of-none _ _
 
-best-on-path-requires : tie.Need-best-on-path-requires Inv-loop μ-loop
-best-on-path-requires c κs = ((omega arith, c .before .before .pre), c .before .loop .inv .best-is)
+is-closed-requires : tie.Need-is-closed-requires Inv-loop μ-loop
+is-closed-requires c κs = search needs
 
 add-line : tie.Need-add-line Inv-loop μ-loop
 add-line c = search needs
@@ -26,7 +27,23 @@ loop-less : tie.Need-loop-less Inv-loop μ-loop
 loop-less c = search needs
 
 loop-again : tie.Need-loop-again Inv-loop μ-loop
-loop-again c = best-of-more (c .before .before .loop .inv) (omega arith) (c .best-on-path .ensures)
+loop-again c =
+    let in-loop = c .before .before in
+    best-of-closed (in-loop .before .loop .inv) (omega arith) (sym (c .before .is-closed .ensures) ∙ c .if1 .taken)
+
+best-on-path-requires : tie.Need-best-on-path-requires Inv-loop μ-loop
+best-on-path-requires c κs =
+    let in-loop = c .before .before in
+    ((omega arith, in-loop .before .before .pre), in-loop .before .loop .inv .best-is)
+
+add-line-2 : tie.Need-add-line-2 Inv-loop μ-loop
+add-line-2 c = search needs
+
+loop-less-2 : tie.Need-loop-less-2 Inv-loop μ-loop
+loop-less-2 c = search needs
+
+loop-again-2 : tie.Need-loop-again-2 Inv-loop μ-loop
+loop-again-2 c = best-of-more (c .before .before .before .before .loop .inv) (omega arith) (c .best-on-path .ensures)
 
 returns : tie.Need-returns Inv-loop μ-loop
 returns c = best-of-all (c .before .loop .inv) (omega arith)
@@ -38,8 +55,12 @@ best-candidate-spec =
     Inv-loop
     μ-loop
     loop-holds
-    best-on-path-requires
+    is-closed-requires
     add-line
     loop-less
     loop-again
+    best-on-path-requires
+    add-line-2
+    loop-less-2
+    loop-again-2
     returns)
