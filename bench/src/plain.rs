@@ -90,12 +90,19 @@ pub fn legal(rows: &Record) -> bool {
 
 // The search
 
+/// The node at a level of a line's path, with its offset and its step.
 #[derive(Clone, Copy)]
-struct Spot {
+struct Node {
     line: usize,
     level: usize,
     offset: u16,
     step: u16,
+}
+
+/// A candidate: its node, its divisor, and the class that is taken.
+#[derive(Clone, Copy)]
+struct Spot {
+    node: Node,
     divisor: u16,
     class: u16,
 }
@@ -128,63 +135,53 @@ fn free_class(rows: &Record, line: usize, level: usize, d: u16) -> Option<u16> {
     })
 }
 
-fn spot_at(
-    rows: &Record,
-    line: usize,
-    level: usize,
-    step: u16,
-    offset: u16,
-    period: u16,
-) -> Option<Spot> {
-    let divisor = gcd(weight(rows, line, level), period / step);
-    let class = free_class(rows, line, level, divisor)?;
+fn spot_at(rows: &Record, node: Node, period: u16) -> Option<Spot> {
+    let divisor = gcd(weight(rows, node.line, node.level), period / node.step);
+    let class = free_class(rows, node.line, node.level, divisor)?;
     Some(Spot {
-        line,
-        level,
-        offset,
-        step,
+        node,
         divisor,
         class,
     })
 }
 
-fn comes_first(level: usize, offset: u16, best: Option<Spot>) -> bool {
-    let Some(first) = best else {
+fn comes_first(node: Node, best: Option<Spot>) -> bool {
+    let Some(Spot { node: first, .. }) = best else {
         return true;
     };
-    if level == first.level {
-        return offset < first.offset;
+    if node.level == first.level {
+        return node.offset < first.offset;
     }
-    first.level < level
+    first.level < node.level
 }
 
 fn seen_earlier(rows: &Record, line: usize, level: usize) -> bool {
     (0..line).any(|earlier| same_node(rows, earlier, line, level))
 }
 
-fn better(
-    rows: &Record,
-    line: usize,
-    level: usize,
-    step: u16,
-    offset: u16,
-    period: u16,
-    best: Option<Spot>,
-) -> Option<Spot> {
-    if !comes_first(level, offset, best) || period % step != 0 || seen_earlier(rows, line, level) {
+fn better(rows: &Record, node: Node, period: u16, best: Option<Spot>) -> Option<Spot> {
+    if !comes_first(node, best)
+        || !period.is_multiple_of(node.step)
+        || seen_earlier(rows, node.line, node.level)
+    {
         return best;
     }
-    spot_at(rows, line, level, step, offset, period).or(best)
+    spot_at(rows, node, period).or(best)
 }
 
 fn best_on_path(rows: &Record, line: usize, period: u16, earlier: Option<Spot>) -> Option<Spot> {
     let mut best = earlier;
-    let mut step = 1;
-    let mut offset = 0;
+    let mut node = Node {
+        line,
+        level: 0,
+        offset: 0,
+        step: 1,
+    };
     for level in 0..path_length(rows, line) {
-        best = better(rows, line, level, step, offset, period, best);
-        offset += edge(rows, line, level) * step;
-        step *= weight(rows, line, level);
+        node.level = level;
+        best = better(rows, node, period, best);
+        node.offset += edge(rows, line, level) * node.step;
+        node.step *= weight(rows, line, level);
     }
     best
 }
@@ -229,19 +226,16 @@ fn split_node(rows: &mut Record, line: usize, level: usize, d: u16) {
 }
 
 fn place_line(rows: &mut Record, line: usize, spot: Spot, quotient: u16) {
+    let Node {
+        line: from, level, ..
+    } = spot.node;
     clear_line(rows, line);
-    for k in 0..spot.level {
-        put_row(
-            rows,
-            line,
-            k,
-            weight(rows, spot.line, k),
-            edge(rows, spot.line, k),
-        );
+    for k in 0..level {
+        put_row(rows, line, k, weight(rows, from, k), edge(rows, from, k));
     }
-    put_row(rows, line, spot.level, spot.divisor, spot.class);
+    put_row(rows, line, level, spot.divisor, spot.class);
     if quotient != 1 {
-        put_row(rows, line, spot.level + 1, quotient, 0);
+        put_row(rows, line, level + 1, quotient, 0);
     }
 }
 
@@ -255,12 +249,17 @@ fn book_first(rows: &mut Record, line: usize, period: u16) -> u32 {
 }
 
 fn book_at(rows: &mut Record, line: usize, period: u16, spot: Spot) -> u32 {
-    let quotient = period / (spot.step * spot.divisor);
-    if spot.divisor < weight(rows, spot.line, spot.level) {
-        split_node(rows, spot.line, spot.level, spot.divisor);
+    let Spot {
+        node,
+        divisor,
+        class,
+    } = spot;
+    let quotient = period / (node.step * divisor);
+    if divisor < weight(rows, node.line, node.level) {
+        split_node(rows, node.line, node.level, divisor);
     }
     place_line(rows, line, spot, quotient);
-    u32::from(spot.offset + spot.class * spot.step)
+    u32::from(node.offset + class * node.step)
 }
 
 fn open_legal(rows: &mut Record, line: u64, period: u16) -> u32 {
