@@ -24,7 +24,7 @@ pub struct Replayed {
 }
 
 // A period of any size as open takes it: all above 4,095 are refused alike, so 4,096 stands for them.
-fn period_asked(period: u64) -> Period
+pub fn period_asked(period: u64) -> Period
     ensures { λ r. ⌜ r .0 ≡ (if ltb 4095 period then 4096 else period) ⌝ }
 {
     if 4095 < period {

@@ -1,10 +1,10 @@
--- `gaplinte::copy_in` meets its contract, by what `copy` ensures.
+-- `gaplinte::rows::copy_in` meets its contract, by what `copy` ensures.
 -- Assumes nothing.
 use mathlib.Core.Path.{ap}
 use borrow.Author.Needs.{needs}
 use Rattle.gaplinte.specs.Served.{plan-of}
-use Rattle.gaplinte.proofs.copy_in.Statement.{statement}
-use Rattle.gaplinte.proofs.copy_in.Tie as tie
+use Rattle.gaplinte.proofs.rows.copy_in.Statement.{statement}
+use Rattle.gaplinte.proofs.rows.copy_in.Tie as tie
 
 slice-aggregate-copy : tie.Need-slice-aggregate-copy
 slice-aggregate-copy c = search needs

@@ -1,14 +1,14 @@
--- `gaplinte::gaplinte_close` meets its contract: the slice has another length, or `plan::change::close` is called on its record.
+-- `gaplinte::change::gaplinte_close` meets its contract: the slice has another length, or `plan::change::close` is called on its record.
 -- Assumes nothing.
 use borrow.Author.Needs.{needs}
-use Rattle.gaplinte.specs.Served.{answer-number}
-use Rattle.gaplinte.proofs.Serving.{other-length, record-served}
-use Rattle.gaplinte.proofs.gaplinte_close.Statement.{statement}
-use Rattle.gaplinte.proofs.gaplinte_close.Tie as tie
+use Rattle.gaplinte.specs.Answer.{answer-number}
+use Rattle.gaplinte.proofs.Serving.{change-wrong, change-served}
+use Rattle.gaplinte.proofs.change.gaplinte_close.Statement.{statement}
+use Rattle.gaplinte.proofs.change.gaplinte_close.Tie as tie
 
 returns : tie.Need-returns
 unfolding answer-number
-returns c = other-length _ _ (c .if1 .taken)
+returns c = change-wrong _ _ (c .if1 .taken)
 
 copy-in-requires : tie.Need-copy-in-requires
 copy-in-requires c κs = search needs
@@ -31,7 +31,7 @@ returns-2 c =
     let called = written .before .before in
     let copied = called .before in
     let whole = copied .before .before .if1 .left in
-    record-served _ _ _ _ _ _ _ whole (copied .copy-in .ensures) (called .close .ensures) (written .copy-out .ensures) (c .close-number .ensures)
+    change-served _ _ _ _ _ _ _ whole (copied .copy-in .ensures) (called .close .ensures) (written .copy-out .ensures) (c .close-number .ensures)
 
 pub gaplinte-close-spec : {M : Type 1} → statement M
 gaplinte-close-spec =

@@ -1,10 +1,10 @@
--- `gaplinte::copy` meets its contract. The invariant: the numbers passed are copied (`Copied`). The measure is what is left of the 1,408.
+-- `gaplinte::rows::copy` meets its contract. The invariant: the numbers passed are copied (`Copied`). The measure is what is left of the 1,408.
 -- Assumes nothing.
 use Prim.Native.Nat.{_-_}
 use borrow.Author.Needs.{needs}
 use Rattle.gaplinte.proofs.Copying.{Copied, copied-none, copied-more, copied-all}
-use Rattle.gaplinte.proofs.copy.Statement.{statement}
-use Rattle.gaplinte.proofs.copy.Tie as tie
+use Rattle.gaplinte.proofs.rows.copy.Statement.{statement}
+use Rattle.gaplinte.proofs.rows.copy.Tie as tie
 
 abbrev Inv-loop : tie.InvT-loop
 Inv-loop from to₀ k₀ to k = Copied from to₀ to 1408 k

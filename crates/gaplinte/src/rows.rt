@@ -1,0 +1,35 @@
+// A plan record that is lent as a slice, copied into a plan and back.
+ghost use mathlib.Core.Path.{_≡_};
+ghost use lib.ListN.{length};
+ghost use Rattle.gaplinte.specs.Served.{plan-of, Whole};
+use tree::Plan;
+
+// The numbers of one record are copied into another.
+pub fn copy(from: &[u16], to: &mut [u16])
+    requires { ⌜ Whole (now from) × Whole (now to) ⌝ }
+    ensures { λ _. ⌜ now (to .exit) ≡ now (from .entry) ⌝ }
+{
+    let mut k = 0;
+    while k < 1408 {
+        to[k] = from[k];
+        k += 1;
+    }
+}
+
+// The plan whose record the slice is.
+pub fn copy_in(rows: &[u16]) -> Plan
+    requires { ⌜ Whole (now rows) ⌝ }
+    ensures { λ r. ⌜ r ≡ plan-of (now (rows .entry)) ⌝ }
+{
+    let mut numbers = [0u16; 1408];
+    copy(rows, &mut numbers);
+    Plan { rows: numbers }
+}
+
+// The slice becomes the record of a plan.
+pub fn copy_out(plan: Plan, rows: &mut [u16])
+    requires { ⌜ Whole (now rows) ⌝ }
+    ensures { λ _. ⌜ now (rows .exit) ≡ plan .rows ⌝ }
+{
+    copy(&plan.rows, rows);
+}
