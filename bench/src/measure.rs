@@ -13,6 +13,9 @@ pub const LINES: [usize; 3] = [1, 16, 64];
 /// How many calls are timed together, where one is short.
 const TOGETHER: usize = 100;
 
+/// How often each program is run.
+const PROGRAM_REPETITIONS: usize = 40;
+
 /// What is measured once: a number of calls.
 type Task = Box<dyn FnMut()>;
 
@@ -76,7 +79,7 @@ const MEASURED: [Measured; 3] = [
     Measured {
         name: "list, each order",
         calls: ORDERS,
-        repetitions: 20,
+        repetitions: 60,
         task: list,
     },
 ];
@@ -114,7 +117,7 @@ pub fn measure(folder: &Path) {
     for lines in LINES {
         let programs = programs(folder, &list_of(lines).bytes);
         let tasks = programs.map(|program| -> Task { Box::new(move || program.run()) });
-        print_row("`book` whole", lines, best_of(20, tasks));
+        print_row("`book` whole", lines, best_of(PROGRAM_REPETITIONS, tasks));
     }
 }
 
