@@ -18,7 +18,7 @@ enum Call {
     Book,
     Lists(u64, u64, Shape),
     Orders,
-    MarkedCases,
+    Cases,
     Script(u64, u64, Shape),
     Answers,
 }
@@ -33,7 +33,7 @@ fn call(arguments: &[String]) -> Option<Call> {
             Shape::named(shape)?,
         )),
         ["orders"] => Some(Call::Orders),
-        ["script", "cases"] => Some(Call::MarkedCases),
+        ["script", "cases"] => Some(Call::Cases),
         ["script", seed, count, shape] => Some(Call::Script(
             seed.parse().ok()?,
             count.parse().ok()?,
@@ -58,7 +58,7 @@ fn run(call: Call) -> io::Result<()> {
         Call::Book => book::print(&input(LONGEST_LIST as u64 + 1)?, &mut out)?,
         Call::Lists(seed, count, shape) => lists::print(seed, count, shape, &mut out)?,
         Call::Orders => order_counts::print(&mut out)?,
-        Call::MarkedCases => script::write(&script::marked_cases(), &mut out)?,
+        Call::Cases => script::write(&script::cases(), &mut out)?,
         Call::Script(seed, count, shape) => {
             script::write(&script::generated(seed, count, shape), &mut out)?;
         }

@@ -7,12 +7,13 @@
 //! 4 asks for an owner (round, 0), 5 shows (line, 0), 6 asks for turns (line, rounds),
 //! 7 walks (next, owned).
 //!
-//! Each step prints one line:
+//! Each step prints one line, a walk two:
 //! `open LINE PERIOD RESULT START`, with `-` for the start of a refused open;
 //! `close LINE RESULT`; `plan`; `write PLACE NUMBER`; `owner ROUND LINE`, or `idle` for
 //! the line; `show LINE 0 PERIOD START` and the 11 rows, each weight and edge, or
 //! `show LINE RESULT`; `turns LINE ROUNDS RESULT TURNS`, with `-` where refused;
-//! `walk NEXT OWNED ANSWER NEXT OWNED`, the answer a line, `idle` or `refused 9`.
+//! `walk NEXT OWNED ANSWER NEXT OWNED`, the answer a line, `idle` or `refused 9`, from the
+//! walker by value, then `lent` and the same from the walker on a lent place.
 //!
 //! A number that is written is above 4,095, which no weight and no edge is: whatever its
 //! place, the record is then no tree and counts as the empty plan.
@@ -24,7 +25,7 @@ use crate::random::Random;
 use crate::refusal::Refusal;
 use crate::shapes::Shape;
 use crate::tree::{Plan, Start, LAST_PERIOD};
-use crate::walker::{walk, Place};
+use crate::walker::{walk, walk_lent, Answer, Place};
 use std::io::{self, Write};
 
 /// Numbers in a record: 64 lines of 11 rows of weight and edge.
@@ -87,9 +88,14 @@ impl Step {
     }
 }
 
+/// The marked cases, then walks at the borders of a place's numbers.
+pub fn cases() -> Vec<Step> {
+    [marked_cases(), border_walks()].concat()
+}
+
 /// (Marked cases, A to I), the calls that change a plan; the lines are numbered from 1
 /// where the case names none.
-pub fn marked_cases() -> Vec<Step> {
+fn marked_cases() -> Vec<Step> {
     let in_turn = |periods: &[u64]| -> Vec<Step> {
         (1..)
             .zip(periods)
@@ -115,6 +121,22 @@ pub fn marked_cases() -> Vec<Step> {
     cases
         .into_iter()
         .flat_map(|case| [vec![Step::Begin], case].concat())
+        .collect()
+}
+
+/// Walks with either number at each border, in a plan where every round is owned and in one
+/// where every second is, and then on the damaged record of each.
+fn border_walks() -> Vec<Step> {
+    let borders = [0, 1, (1 << 32) - 1, 1 << 32, u64::MAX - 1, u64::MAX];
+    let walks = borders.map(|next| borders.map(|owned| Step::Walk(Place { next, owned })));
+    let walks = walks.concat();
+    [(1, 0, 4_096), (2, RECORD_NUMBERS - 1, 65_535)]
+        .into_iter()
+        .flat_map(|(period, place, number)| {
+            let begins = vec![Step::Begin, Step::Open(7, period)];
+            let damages = vec![Step::Write(place, number)];
+            [begins, walks.clone(), damages, walks.clone()].concat()
+        })
         .collect()
 }
 
@@ -187,8 +209,8 @@ pub fn write(steps: &[Step], out: &mut impl Write) -> io::Result<()> {
         .try_for_each(|step| out.write_all(&step.bytes()))
 }
 
-/// Carries a script out, one printed line a step. A step of an unknown kind, and bytes
-/// after the last whole step, end it.
+/// Carries a script out, step by step. A step of an unknown kind, and bytes after the last
+/// whole step, end it.
 pub fn print_answers(script: &[u8], out: &mut impl Write) -> io::Result<()> {
     let mut plan = Plan::empty();
     for bytes in script.chunks_exact(STEP_BYTES) {
@@ -225,7 +247,7 @@ fn print_step(plan: &mut Plan, step: Step, out: &mut impl Write) -> io::Result<(
             let answer = turned(turns(plan, line, rounds));
             writeln!(out, "turns {line} {rounds} {answer}")
         }
-        Step::Walk(place) => writeln!(out, "walk {}", walked(plan, place)),
+        Step::Walk(place) => print_walks(plan, place, out),
     }
 }
 
@@ -252,15 +274,22 @@ fn turned(answer: Result<u64, Refusal>) -> String {
     }
 }
 
-fn walked(plan: &Plan, place: Place) -> String {
-    let mut after = place;
-    let answer = match walk(plan, &mut after) {
+fn print_walks(plan: &Plan, place: Place, out: &mut impl Write) -> io::Result<()> {
+    let (answer, after) = walk(plan, place);
+    writeln!(out, "walk {}", walked(place, answer, after))?;
+    let mut lent = place;
+    let answer = walk_lent(plan, &mut lent);
+    writeln!(out, "lent {}", walked(place, answer, lent))
+}
+
+fn walked(before: Place, answer: Answer, after: Place) -> String {
+    let answer = match answer {
         Ok(line) => owned(line),
         Err(refusal) => format!("refused {}", refusal.number()),
     };
     format!(
         "{} {} {answer} {} {}",
-        place.next, place.owned, after.next, after.owned
+        before.next, before.owned, after.next, after.owned
     )
 }
 
@@ -297,13 +326,17 @@ mod tests {
         assert_eq!(Step::of([8; STEP_BYTES]), None);
     }
 
-    #[test]
-    fn marked_cases_print_their_answers() {
+    fn answers(steps: &[Step]) -> String {
         let mut script = Vec::new();
-        write(&marked_cases(), &mut script).unwrap();
+        write(steps, &mut script).unwrap();
         let mut text = Vec::new();
         print_answers(&script, &mut text).unwrap();
-        let text = String::from_utf8(text).unwrap();
+        String::from_utf8(text).unwrap()
+    }
+
+    #[test]
+    fn marked_cases_print_their_answers() {
+        let text = answers(&marked_cases());
         let lines: Vec<&str> = text.lines().collect();
         assert_eq!(lines.len(), marked_cases().len());
         assert_eq!(lines[5], "open 5 12 0 3");
@@ -313,15 +346,37 @@ mod tests {
     }
 
     #[test]
-    fn generated_scripts_bring_every_answer() {
-        let mut text = Vec::new();
-        for shape in ["sparse", "full", "deep", "primes"] {
-            let mut script = Vec::new();
-            let steps = generated(1, 40, Shape::named(shape).unwrap());
-            write(&steps, &mut script).unwrap();
-            print_answers(&script, &mut text).unwrap();
+    fn border_walks_print_both_forms() {
+        let text = answers(&border_walks());
+        for form in ["walk", "lent"] {
+            for walk in [
+                // every round is owned
+                "0 0 7 1 1",
+                "4294967295 4294967295 7 4294967296 4294967296",
+                "18446744073709551614 18446744073709551614 7 18446744073709551615 18446744073709551615",
+                // every second one is
+                "1 4294967296 idle 2 4294967296",
+                "4294967296 18446744073709551614 7 4294967297 18446744073709551615",
+                // a damaged record
+                "0 0 idle 1 0",
+                "18446744073709551614 1 idle 18446744073709551615 1",
+                "18446744073709551615 1 refused 9 18446744073709551615 1",
+                "1 18446744073709551615 refused 9 1 18446744073709551615",
+            ] {
+                let line = format!("{form} {walk}");
+                assert!(text.lines().any(|printed| printed == line), "{line}");
+            }
         }
-        let text = String::from_utf8(text).unwrap();
+        let form = |word| text.lines().filter_map(move |line| line.strip_prefix(word));
+        assert!(form("walk").eq(form("lent")));
+        assert_eq!(form("lent").count(), 4 * 36);
+    }
+
+    #[test]
+    fn generated_scripts_bring_every_answer() {
+        let text: String = ["sparse", "full", "deep", "primes"]
+            .map(|shape| answers(&generated(1, 40, Shape::named(shape).unwrap())))
+            .concat();
         for answer in ["1 -", "2 -", "3 -", "5 -"] {
             assert!(text
                 .lines()
@@ -331,6 +386,8 @@ mod tests {
             "show 64 1",
             "walk 18446744073709551615 ",
             "walk 4294967297 ",
+            "lent 18446744073709551615 ",
+            "lent 4294967297 ",
         ] {
             assert!(text.lines().any(|line| line.starts_with(start)), "{start}");
         }

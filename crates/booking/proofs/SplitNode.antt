@@ -5,11 +5,11 @@ use native.Mathlib.Omega.{arith}
 use native.Mathlib.Nat.{le-refl}
 use native.Mathlib.Decide.{ℕ-discrete}
 use native.Mathlib.Numerals.{add-one}
-use mathlib.Core.Path.{_≡_, refl, sym, _∙_, ap, ap₂}
+use mathlib.Core.Path.{_≡_, refl, sym, _∙_, ap}
 use mathlib.Core.Bool.{Bool, true, false, false≢true}
 use mathlib.Core.List.{List, [], _∷_}
 use lib.Dec.{eqb}
-use lib.ListN.{length, take}
+use lib.ListN.{length}
 use Rattle.tree.specs.declared.Row.{Row}
 use Rattle.tree.specs.Search.{if_then_else_}
 use Rattle.tree.specs.Record.{row-at, path-at}
@@ -37,14 +37,6 @@ same-node-by-edges l (p ∷ ps) [] h t same qs = absurd (omega arith)
 same-node-by-edges l (p ∷ ps) (o ∷ os) h t same [] = refl
 same-node-by-edges zero (p ∷ ps) (o ∷ os) h t same (q ∷ qs) = refl
 same-node-by-edges (suc l) (p ∷ ps) (o ∷ os) h t same (q ∷ qs) = rw (same 0 (omega arith), same-node-by-edges l ps os (omega arith) (omega arith) (λ k below. same (suc k) (omega arith)) qs)
-
--- two paths with the same rows above a level
-same-take : (l : ℕ) (ps os : List Row) → l ≤ length ps → l ≤ length os → ((k : ℕ) → k < l → row-of k ps ≡ row-of k os) → take l ps ≡ take l os
-unfolding row-of
-same-take zero ps os h t same = refl
-same-take (suc l) [] os h t same = absurd (omega arith)
-same-take (suc l) (p ∷ ps) [] h t same = absurd (omega arith)
-same-take (suc l) (p ∷ ps) (o ∷ os) h t same = ap₂ _∷_ (same 0 (omega arith)) (same-take l ps os (omega arith) (omega arith) (λ k below. same (suc k) (omega arith)))
 
 -- a split of a line leaves its way to the node as it was
 module _ (rows : List ℕ) (size : length rows ≡ 1408) (L l d : ℕ) (below : L < 64) (above-0 : 0 < d) (on-path : l < length (path-at rows L)) (new : List ℕ) (split : new ≡ set-line rows L (split-path l d (path-at rows L))) where
@@ -174,9 +166,3 @@ module _ {start : List ℕ} {L l d : ℕ} (size : length start ≡ 1408) (splitt
       go : SplitBelow start so-far L l d n → (b : Bool) → same-node l (path-at start L) (path-at start n) ≡ b → SplitBelow start (if b then set-line so-far n (split-path l d (path-at start n)) else so-far) L l d (n + 1)
       go split true e = split-below-more split (omega arith) refl (test-kept split (omega arith) refl ∙ e) (rw (path-kept split (omega arith) refl))
       go split false e = split-below-other split (omega arith) refl (test-kept split (omega arith) refl ∙ e)
-
-  -- the way to the node
-  pub split-keeps-way : take l (path-at (split-lines start (path-at start L) l d 64) L) ≡ take l (path-at start L)
-  split-keeps-way =
-      let split = split-below 64 (le-refl 64) in
-      same-take l (path-at (split-lines start (path-at start L) l d 64) L) (path-at start L) (omega (arith, split .goes-on)) (omega (arith, splittable .on-path)) (split .way-kept)

@@ -68,17 +68,6 @@ module _ (rows : List ℕ) where
     unfolding tree-of
     path-on-record = treeOf-paths (record { rows = rows }) is-legal
 
-    pub period-on-record : (L : ℕ) → L < 64 → product (path-at rows L) ≡ period-of L (tree-of rows)
-    unfolding period-of
-    period-on-record L below = ap product (path-on-record L below)
-
-    pub start-on-record : (L : ℕ) → L < 64 → sum (path-at rows L) ≡ start-of L (tree-of rows)
-    unfolding start-of
-    start-on-record L below = ap sum (path-on-record L below)
-
-    pub rows-on-record : (L : ℕ) → L < 64 → rows-11 (path-at rows L) ≡ rows-11 (path-of L (tree-of rows))
-    rows-on-record L below = ap rows-11 (path-on-record L below)
-
     open-on-record : (L : ℕ) → L < 64 → is-open L (tree-of rows) ≡ not (no-rows (path-at rows L))
     unfolding tree-of
     open-on-record L = treeOf-open (record { rows = rows }) L is-legal

@@ -1,6 +1,6 @@
--- A line's path and its block of the record, each from the other: path-at and rest-unused look at the block alone.
+-- A line's path and its block of the record, each from the other.
 -- Assumes nothing.
-use Prim.Native.Nat.{ℕ, zero, suc, _+_, _*_, _≤_, _<_}
+use Prim.Native.Nat.{ℕ, _+_, _*_, _≤_, _<_}
 use native.Mathlib.Omega.{arith}
 use native.Mathlib.Nat.{zero-add, add-assoc}
 use native.Mathlib.Decide.{decLt}
@@ -14,12 +14,12 @@ use borrow.Author.Tests.{eqb-true, lt-ltb, le-ltb}
 use Rattle.tree.specs.declared.Row.{Row}
 use Rattle.tree.specs.Tree.{row}
 use Rattle.tree.specs.Asking.{rows-11}
-use Rattle.tree.specs.Record.{row-at, path-from, path-at, unused, rest-unused, numbers}
+use Rattle.tree.specs.Record.{row-at, path-at, unused, rest-unused, numbers}
 use Rattle.tree.specs.Paths.{row-of}
-use Rattle.tree.proofs.Searching.{all-below-same, all-below-at, all-below-each}
+use Rattle.tree.proofs.Searching.{all-below-at, all-below-each}
 use Rattle.bridge.proofs.Blocks.{block, block-length, rows-11-length}
 use Rattle.bridge.proofs.RowsOfNumbers.{row-in, row-in-numbers, numbers-by-rows, row-of-rows-11, row-of-beyond}
-use Rattle.bridge.proofs.WrittenPaths.{Written, row-of-path-from, path-from-length, path-from-weighted, path-from-of-rows}
+use Rattle.bridge.proofs.WrittenPaths.{Written, row-of-path-from, path-from-of-rows}
 
 -- A line's rows are in its block
 
@@ -32,30 +32,7 @@ unfolding row-at row-in
 row-at-in-block rows L k within =
     cc (number-in-block rows L (2 * k) (omega arith), number-in-block rows L (2 * k + 1) (omega arith), add-assoc (22 * L) (2 * k) 1)
 
-pub row-at-block : (xs ys : List ℕ) (L k : ℕ) → k < 11 → block xs L ≡ block ys L → row-at xs L k ≡ row-at ys L k
-row-at-block xs ys L k within same =
-    row-at-in-block xs L k within ∙ ap (λ (b : List ℕ). row-in b k) same ∙ sym (row-at-in-block ys L k within)
-
-path-from-by-block : (xs ys : List ℕ) (L : ℕ) → block xs L ≡ block ys L → (k n : ℕ) → k + n ≤ 11 → path-from xs L k n ≡ path-from ys L k n
-unfolding path-from
-path-from-by-block xs ys L same k zero within = refl
-path-from-by-block xs ys L same k (suc n) within =
-    rw (row-at-block xs ys L k (omega arith) same, path-from-by-block xs ys L same (suc k) n (omega arith))
-
-pub path-at-by-block : (xs ys : List ℕ) (L : ℕ) → block xs L ≡ block ys L → path-at xs L ≡ path-at ys L
-unfolding path-at
-path-at-by-block xs ys L same = path-from-by-block xs ys L same 0 11 (omega arith)
-
-pub rest-unused-by-block : (xs ys : List ℕ) (L : ℕ) → block xs L ≡ block ys L → rest-unused xs L ≡ rest-unused ys L
-unfolding rest-unused
-rest-unused-by-block xs ys L same =
-    all-below-same 11 _ _ (λ k within. rw (path-at-by-block xs ys L same, row-at-block xs ys L k within same))
-
 -- A path is read back from its block
-
-pub path-at-written : (rows : List ℕ) (L : ℕ) → Written (path-at rows L)
-unfolding path-at
-path-at-written rows L = record { at-most-11 = path-from-length rows L 0 11; weighted = path-from-weighted rows L 0 11 }
 
 row-at-of-block : (rows : List ℕ) (L : ℕ) (rs : List Row) → block rows L ≡ numbers (rows-11 rs) → (k : ℕ) → k < 11 → row-at rows L k ≡ row-of k rs
 row-at-of-block rows L rs here k within =

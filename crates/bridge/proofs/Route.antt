@@ -85,12 +85,6 @@ route-path M (node w f) rs proper h =
     let there = map-eq-some-iff (_∷_ (row w j)) (path M (f j)) .0 offered in
     proper .1 .line-once M j e (path-open M (f j) (there .0) (there .1)) here
 
-pub route-once : (M : ℕ) (t : Tree) (rs qs : List Row) → Proper t → Route M t rs → Route M t qs → rs ≡ qs
-route-once M t rs qs proper h k =
-    let a = route-path M t rs proper h in
-    let b = route-path M t qs proper k in
-    cc
-
 pub no-route-path-none : (M : ℕ) (t : Tree) → ((rs : List Row) → Route M t rs → ⊥) → path M t ≡ none
 no-route-path-none M t absent = go (path M t) refl
   where

@@ -43,24 +43,6 @@ module _ (rows : List ℕ) (L : ℕ) where
   unfolding path-from
   path-from-goes-on k n more = rw (ne-eqb (row-at rows L k .weight) 0 (λ e. omega arith))
 
-  pub path-from-length : (k n : ℕ) → length (path-from rows L k n) ≤ n
-  unfolding path-from
-  path-from-length k zero = omega arith
-  path-from-length k (suc n) =
-      elim (eq-zero-or-pos (row-at rows L k .weight)) [
-        | inl none ↦ rw (path-from-ends k n none) (omega arith)
-        | inr more ↦ rw (path-from-goes-on k n more) (omega (arith, path-from-length (suc k) n))
-      ]
-
-  pub path-from-weighted : (k n : ℕ) → Weighted (path-from rows L k n)
-  unfolding path-from Weighted
-  path-from-weighted k zero = tt
-  path-from-weighted k (suc n) =
-      elim (eq-zero-or-pos (row-at rows L k .weight)) [
-        | inl none ↦ rw (path-from-ends k n none) tt
-        | inr more ↦ rw (path-from-goes-on k n more) (more, path-from-weighted (suc k) n)
-      ]
-
   path-from-begins : (k n : ℕ) → 0 < length (path-from rows L k (suc n)) → 0 < row-at rows L k .weight
   path-from-begins k n some-rows =
       elim (eq-zero-or-pos (row-at rows L k .weight)) [

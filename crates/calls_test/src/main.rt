@@ -1,6 +1,8 @@
 // A test of the calls of crate plan, against the output of `second answers`: a script of calls is read from standard
 // input, put to one plan after another, and each answer is printed. second/src/script.rs says the formats.
 ghost use Prim.Native.Nat.{_+_, _<_, _≤_};
+ghost use Rattle.tree.specs.Record.{treeOf};
+ghost use Rattle.plan.specs.Walker.{WalkedOn};
 use libc::STDIN_FILENO;
 use libc::STDOUT_FILENO;
 use lines::CloseAnswer;
@@ -9,6 +11,7 @@ use plan::ask::OwnerAnswer;
 use plan::ask::ShowAnswer;
 use plan::ask::TurnsAnswer;
 use plan::walker::WalkAnswer;
+use plan::walker::Walked;
 use plan::walker::WalkerPlace;
 use tree::Period;
 use tree::Plan;
@@ -184,7 +187,11 @@ fn print_place(place: WalkerPlace) {
     decimal(place.owned);
 }
 
-fn print_walk(before: WalkerPlace, answer: WalkAnswer, after: WalkerPlace) {
+// The form of the walker, the place before the call, the answer, and the place after it.
+fn print_walk(form: &[u8], before: WalkerPlace, walked: Walked) {
+    let answer = walked.answer;
+    let after = walked.place;
+    text(form);
     print_place(before);
     text(b" ");
     match answer {
@@ -199,13 +206,22 @@ fn print_walk(before: WalkerPlace, answer: WalkAnswer, after: WalkerPlace) {
     text(b"\n");
 }
 
-// The walker by value. A place that is a local struct cannot be lent to a call within what the borrow checker covers.
+// The walker on a place that is lent.
+fn lend(current: Plan, place: WalkerPlace) -> Walked
+    ensures { λ r. ⌜ WalkedOn place (treeOf current) (r .answer) (r .place) ⌝ }
+{
+    let mut lent = place;
+    let answer = plan::walker::walk_lent(current, &mut lent);
+    Walked {
+        answer,
+        place: lent,
+    }
+}
+
+// The walker by value, then on a lent place.
 fn run_walk(current: Plan, place: WalkerPlace) {
-    let walked = plan::walker::walk(current, place);
-    let answer = walked.answer;
-    let after = walked.place;
-    text(b"walk");
-    print_walk(place, answer, after);
+    print_walk(b"walk", place, plan::walker::walk(current, place));
+    print_walk(b"lent", place, lend(current, place));
 }
 
 // A step that asks the plan.

@@ -1,5 +1,4 @@
 pub mod Euclid
-pub mod SameNode
 pub mod NoneBelow
 pub mod PathRows
 pub mod FreeClass

@@ -5,10 +5,11 @@ ghost use Prim.Native.Nat.{_<_};
 ghost use lib.ListN.{length};
 ghost use Rattle.tree.specs.Numbers.{gcd, divides};
 ghost use Rattle.tree.specs.Record.{path-at, legal};
-ghost use Rattle.tree.specs.Paths.{same-node, class-on-path, spot-with, spot-at, better-spot, best-on-path, best-of-lines};
+ghost use Rattle.tree.specs.Paths.{class-on-path, spot-with, spot-at, better-spot, best-on-path, best-of-lines};
 ghost use Rattle.candidates.specs.Answers.{class-of, spot-of, comes-first, seen-earlier, Reached};
 use paths::edge;
 use paths::path_length;
+use paths::same_node;
 use paths::weight;
 
 // What the search for a class finds: the smallest free one, or none.
@@ -45,28 +46,6 @@ pub fn gcd(a: u16, b: u16) -> u16
         smaller = rest;
     }
     larger
-}
-
-// The paths of two lines go through the same node at a level.
-pub fn same_node(rows: &[u16; 1408], a: usize, b: usize, level: usize) -> bool
-    requires { ⌜ (a < 64) × (b < 64) × (level < 11) ⌝ }
-    ensures { λ r. ⌜ r ≡ same-node level (path-at (now (rows .entry)) a) (path-at (now (rows .entry)) b) ⌝ }
-{
-    for k in 0..level {
-        if weight(rows, a, k) == 0 {
-            return false;
-        }
-        if weight(rows, b, k) == 0 {
-            return false;
-        }
-        if edge(rows, a, k) != edge(rows, b, k) {
-            return false;
-        }
-    }
-    if weight(rows, a, level) == 0 {
-        return false;
-    }
-    weight(rows, b, level) != 0
 }
 
 // The smallest class modulo d that no line through the node takes.

@@ -1,2 +1,4 @@
 pub mod Copying
+pub mod OrdersServing
+pub mod RowsWritten
 pub mod Serving

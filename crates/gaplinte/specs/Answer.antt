@@ -16,6 +16,16 @@ answer-number (refuses n) = 2 ^ 56 * n
 unfoldable pub outcome-told : ℕ → Outcome ℕ
 outcome-told r = if ltb r (2 ^ 56) then gives r else refuses (r / 2 ^ 56)
 
+-- the value of a call that writes what it gives into a lent slice is 0
+unfoldable pub zero-value : {A : Type 0} → Outcome A → Outcome ℕ
+zero-value (gives a) = gives 0
+zero-value (refuses n) = refuses n
+
+-- what such a call leaves in the lent slice: the numbers of what it gives, or the slice as found where it is refused
+unfoldable pub numbers-or : {A : Type 0} → (A → List ℕ) → List ℕ → Outcome A → List ℕ
+numbers-or numbers lent (gives a) = numbers a
+numbers-or numbers lent (refuses n) = lent
+
 -- A call answered r. Where the lent slices have the lengths that it asks for, r is the number of what the rules give.
 -- Else the call is refused with 255.
 pub record Answers (Fit : Type 0) (o : Outcome ℕ) (r : ℕ) : Type 0 where

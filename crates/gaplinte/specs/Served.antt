@@ -2,17 +2,20 @@
 -- Assumes nothing.
 use Prim.Native.Nat.{ℕ}
 use mathlib.Core.Path.{_≡_}
-use mathlib.Core.List.{List}
+use mathlib.Core.List.{List, [], _∷_}
 use mathlib.Core.Option.{Option, none, some}
-use lib.ListN.{length}
+use lib.ListN.{length, getD}
 use Rattle.tree.specs.declared.Plan.{Plan}
-use Rattle.tree.specs.Asking.{owner}
-use Rattle.tree.specs.Calls.{Call, Answer, booked, done, refused, answer, Outcome, gives, refuses, gives-unless}
+use Rattle.tree.specs.declared.Row.{Row}
+use Rattle.tree.specs.Asking.{owner, Shown}
+use Rattle.tree.specs.Calls.{Call, Answer, booked, done, refused, answer, Outcome, gives, refuses, gives-unless, show-outcome, turns-outcome}
 use Rattle.tree.specs.Record.{treeOf}
+use Rattle.plan.specs.declared.walker.WalkerPlace.{WalkerPlace}
 use Rattle.plan.specs.Meets.{plan-after}
+use Rattle.plan.specs.Walker.{walk-outcome, place-after}
 use Rattle.lists.specs.Lists.{list-refusal}
 use Rattle.lists.specs.Runs.{plan-after-list, bytes-after-list}
-use Rattle.gaplinte.specs.Answer.{Answers, Leaves}
+use Rattle.gaplinte.specs.Answer.{zero-value, numbers-or, Answers, Leaves}
 
 -- the plan whose record a slice is
 unfoldable pub plan-of : List ℕ → Plan
@@ -54,3 +57,41 @@ pub record ListServed (before orders lent after written : List ℕ) (r : ℕ) : 
   pub answers : Answers (Whole before) (list-outcome (list-refusal (length orders) (length lent))) r
   pub rows : Leaves (Whole before) before (plan-after-list (list-refusal (length orders) (length lent)) (plan-of before) orders .rows) after
   pub bytes : Leaves (Whole before) lent (bytes-after-list (list-refusal (length orders) (length lent)) (plan-of before) orders lent) written
+
+-- Turns
+
+pub record TurnsServed (rows : List ℕ) (L N r : ℕ) : Type 0 where
+  pub answers : Answers (Whole rows) (turns-outcome L N (treeOf (plan-of rows))) r
+
+-- Show
+
+-- the numbers of rows: of each its weight and its edge
+unfoldable pub row-numbers : List Row → List ℕ
+row-numbers [] = []
+row-numbers (row ∷ rows) = row .weight ∷ row .edge ∷ row-numbers rows
+
+-- the numbers of what show gives: period, start, and those of the 11 rows
+unfoldable pub shown-numbers : Shown → List ℕ
+shown-numbers s = s .period ∷ s .start ∷ row-numbers (s .rows)
+
+pub record ShowServed (rows : List ℕ) (L : ℕ) (before after : List ℕ) (r : ℕ) : Type 0 where
+  pub answers : Answers (Whole rows × (length before ≡ 24)) (zero-value (show-outcome L (treeOf (plan-of rows)))) r
+  pub shown : Leaves (Whole rows × (length before ≡ 24)) before (numbers-or shown-numbers before (show-outcome L (treeOf (plan-of rows)))) after
+
+-- The walker
+
+-- the value is the line, or 64 where the round is idle
+unfoldable pub line-number : Outcome (Option ℕ) → Outcome ℕ
+line-number (gives o) = gives (line-or-64 o)
+line-number (refuses n) = refuses n
+
+-- a place as two numbers: the next round, and the count of owned rounds
+unfoldable pub place-of : List ℕ → WalkerPlace
+place-of place = record { next = getD place 0 0; owned = getD place 1 0 }
+
+unfoldable pub place-numbers : WalkerPlace → List ℕ
+place-numbers p = p .next ∷ p .owned ∷ []
+
+pub record WalkServed (rows before after : List ℕ) (r : ℕ) : Type 0 where
+  pub answers : Answers (Whole rows × (length before ≡ 2)) (line-number (walk-outcome (place-of before) (treeOf (plan-of rows)))) r
+  pub place : Leaves (Whole rows × (length before ≡ 2)) before (place-numbers (place-after (place-of before) (treeOf (plan-of rows)))) after

@@ -5,4 +5,7 @@ mod answers;
 pub mod ask;
 pub mod change;
 pub mod list;
+pub mod order;
 mod rows;
+pub mod show;
+pub mod walk;

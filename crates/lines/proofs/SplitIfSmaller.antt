@@ -10,7 +10,8 @@ use borrow.Author.Tests.{lt-ltb, le-ltb}
 use Rattle.tree.specs.declared.Row.{Row}
 use Rattle.tree.specs.Record.{row-at, path-at}
 use Rattle.tree.specs.Paths.{row-of, split-lines}
-use Rattle.bridge.proofs.WrittenPaths.{row-of-path-from, path-from-length}
+use Rattle.paths.proofs.PathRest.{path-from-length}
+use Rattle.bridge.proofs.WrittenPaths.{row-of-path-from}
 use Rattle.lines.specs.Bookable.{split-if-smaller}
 
 -- the row that the code reads is that of the path

@@ -1,4 +1,4 @@
--- The ways that owner, show and turns can go on a plan record.
+-- The ways that show and turns can go on a plan record.
 -- Assumes nothing.
 use Prim.Native.Nat.{ℕ, _+_, _/_, _<_, _≤_}
 use native.Mathlib.Omega.{arith}
@@ -6,22 +6,20 @@ use mathlib.Core.Path.{_≡_, refl, sym, ap}
 use mathlib.Core.Bool.{Bool, true, false}
 use mathlib.Core.List.{List, []}
 use mathlib.Core.Logic.{_⊎_, inl, inr, ⊎-elim}
-use mathlib.Core.Option.{none}
 use Rattle.tree.specs.declared.Plan.{Plan}
 use Rattle.tree.specs.declared.Period.{Period}
 use Rattle.tree.specs.declared.Start.{Start}
 use Rattle.tree.specs.Search.{if_then_else_}
 use Rattle.tree.specs.Tree.{Tree, product, sum}
-use Rattle.tree.specs.Asking.{owner, rows-11}
+use Rattle.tree.specs.Asking.{rows-11}
 use Rattle.tree.specs.Calls.{gives, refuses, show-outcome, turns-outcome}
 use Rattle.tree.specs.Record.{path-at, no-rows, legal, treeOf}
-use Rattle.tree.specs.Paths.{owner-on-paths}
 use Rattle.paths.specs.declared.Found.the-variants.{At, Nothing}
 use Rattle.paths.specs.Answers.{lookup}
 use Rattle.paths.proofs.PathRest.{path-rest-start, path-rest-product}
 use Rattle.lines.proofs.CloseLine.{lookup-nothing, lookup-at}
 use Rattle.bridge.specs.Rows.{tree-of}
-use Rattle.bridge.proofs.AskingRecords.{owner-on-illegal, owner-on-record, shown-refused-1, shown-refused-4, shown-on-illegal, shown-on-record, turns-refused-1, turns-refused-4, turns-on-illegal, turns-on-record}
+use Rattle.bridge.proofs.AskingRecords.{shown-refused-1, shown-refused-4, shown-on-illegal, shown-on-record, turns-refused-1, turns-refused-4, turns-on-illegal, turns-on-record}
 use Rattle.plan.specs.declared.ask.ShowAnswer.the-variants.{Times, Refused}
 use Rattle.plan.specs.Ask.{line-found, show-answer, rows-beside, ShownAs}
 
@@ -60,16 +58,6 @@ module _ (plan : Plan) where
   pub turns-above : (L N : ℕ) → 63 < L → turns-outcome L N (treeOf plan) ≡ refuses 1
   unfolding tree-of
   turns-above = turns-refused-1 (plan .rows)
-
-  -- owner, of a record that is no tree and of one that is
-
-  pub owner-of-no-tree : legal (plan .rows) ≡ false → (n : ℕ) → owner n (treeOf plan) ≡ none
-  unfolding tree-of
-  owner-of-no-tree = owner-on-illegal (plan .rows)
-
-  pub owner-by-paths : legal (plan .rows) ≡ true → (n : ℕ) → owner-on-paths (path-at (plan .rows)) n ≡ owner n (treeOf plan)
-  unfolding tree-of
-  owner-by-paths = owner-on-record (plan .rows)
 
   module _ (L : ℕ) (number : L ≤ 63) where
     -- a line that is not open

@@ -59,62 +59,66 @@ reply-not-refused (close-line L) t n h = let z : _≡_ {A = ℕ} 0 1 = cc in ome
 refused-not-booked : (n s : ℕ) → _≡_ {A = Answer} (refused n) (booked s) → ⊥
 refused-not-booked n s h = let z : _≡_ {A = ℕ} 0 1 = cc in omega arith
 
-module _ (plan : Plan) (not-legal : legal (plan .rows) ≡ false) where
+module _ (rows : List ℕ) (not-legal : legal rows ≡ false) where
   -- both have the empty tree
-  same-tree : treeOf empty-plan ≡ treeOf plan
-  same-tree = empty-tree ∙ sym (treeOf-illegal plan not-legal)
+  no-tree : tree-of rows ≡ nothing
+  unfolding tree-of
+  no-tree = treeOf-illegal (record { rows = rows }) not-legal
 
-  pub booked-from-empty : (c : Call) (s : ℕ) (after : Plan) → Meets c empty-plan (booked s) after → Meets c plan (booked s) after
-  unfolding answer answer-unless plan-after plan-unless
+  same-tree : tree-of (empty-plan .rows) ≡ tree-of rows
+  unfolding tree-of
+  same-tree = empty-tree ∙ sym no-tree
+
+  booked-from-empty : (c : Call) (s : ℕ) (after : List ℕ) → CarriedOut c (empty-plan .rows) after (booked s) → CarriedOut c rows after (booked s)
+  unfolding answer answer-unless rows-after rows-unless
   booked-from-empty c s after h =
       record {
         answer-is = told;
-        plan-is =
-            h .plan-is ∙ ap (λ (t : Tree). plan-unless (refusal c t) empty-plan (recordOf (carried-out c t))) same-tree
-            ∙ by-refusal (refusal c (treeOf plan)) told;
+        rows-are =
+            h .rows-are ∙ ap (λ (t : Tree). rows-unless (refusal c t) (empty-plan .rows) (recordOf (carried-out c t) .rows)) same-tree
+            ∙ by-refusal (refusal c (tree-of rows)) told;
       }
     where
-      told : booked s ≡ answer c (treeOf plan)
+      told : booked s ≡ answer c (tree-of rows)
       told = h .answer-is ∙ ap (answer c) same-tree
 
-      by-refusal : (o : Option ℕ) → booked s ≡ answer-unless o (reply c (treeOf plan)) →
-          plan-unless o empty-plan (recordOf (carried-out c (treeOf plan))) ≡ plan-unless o plan (recordOf (carried-out c (treeOf plan)))
+      by-refusal : (o : Option ℕ) → booked s ≡ answer-unless o (reply c (tree-of rows)) →
+          rows-unless o (empty-plan .rows) (recordOf (carried-out c (tree-of rows)) .rows) ≡ rows-unless o rows (recordOf (carried-out c (tree-of rows)) .rows)
       by-refusal (some n) e = absurd (refused-not-booked n s (sym e))
       by-refusal none e = refl
 
-  pub refused-from-empty : (c : Call) (n : ℕ) (after : Plan) → Meets c empty-plan (refused n) after → Meets c plan (refused n) plan
-  unfolding answer answer-unless plan-after plan-unless
-  refused-from-empty c n after h = record { answer-is = told; plan-is = by-refusal (refusal c (treeOf plan)) told }
+  refused-from-empty : (c : Call) (n : ℕ) (after : List ℕ) → CarriedOut c (empty-plan .rows) after (refused n) → CarriedOut c rows rows (refused n)
+  unfolding answer answer-unless rows-after rows-unless
+  refused-from-empty c n after h = record { answer-is = told; rows-are = by-refusal (refusal c (tree-of rows)) told }
     where
-      told : refused n ≡ answer c (treeOf plan)
+      told : refused n ≡ answer c (tree-of rows)
       told = h .answer-is ∙ ap (answer c) same-tree
 
-      by-refusal : (o : Option ℕ) → refused n ≡ answer-unless o (reply c (treeOf plan)) → plan ≡ plan-unless o plan (recordOf (carried-out c (treeOf plan)))
+      by-refusal : (o : Option ℕ) → refused n ≡ answer-unless o (reply c (tree-of rows)) → rows ≡ rows-unless o rows (recordOf (carried-out c (tree-of rows)) .rows)
       by-refusal (some m) e = refl
-      by-refusal none e = absurd (reply-not-refused c (treeOf plan) n (sym e))
+      by-refusal none e = absurd (reply-not-refused c (tree-of rows) n (sym e))
 
-  refused-as-found : (c : Call) (n : ℕ) → refusal c (treeOf plan) ≡ some n → Meets c plan (refused n) plan
-  unfolding answer answer-unless plan-after plan-unless
-  refused-as-found c n h = record { answer-is = rw h; plan-is = rw h }
+  refused-as-found : (c : Call) (n : ℕ) → refusal c (tree-of rows) ≡ some n → CarriedOut c rows rows (refused n)
+  unfolding answer answer-unless rows-after rows-unless
+  refused-as-found c n h = record { answer-is = rw h; rows-are = rw h }
 
-  pub close-none-above : (L : ℕ) → 63 < L → Meets (close-line L) plan (refused 1) plan
+  pub close-none-above : (L : ℕ) → 63 < L → CarriedOut (close-line L) rows rows (refused 1)
   unfolding refusal
-  close-none-above L above = refused-as-found (close-line L) 1 (line-refused-1 L (treeOf plan) above)
+  close-none-above L above = refused-as-found (close-line L) 1 (line-refused-1 L (tree-of rows) above)
 
-  pub close-none : (L : ℕ) → L ≤ 63 → Meets (close-line L) plan (refused 4) plan
+  pub close-none : (L : ℕ) → L ≤ 63 → CarriedOut (close-line L) rows rows (refused 4)
   unfolding refusal is-open path found
-  close-none L number =
-      refused-as-found (close-line L) 4 (line-refused-4 L (treeOf plan) number (ap (is-open L) (treeOf-illegal plan not-legal)))
+  close-none L number = refused-as-found (close-line L) 4 (line-refused-4 L (tree-of rows) number (ap (is-open L) no-tree))
 
   -- an open that was made in the empty plan instead
-  module _ (L p : ℕ) (e after : Plan) (a : OpenAnswer) (empty : e ≡ empty-plan) (h : Meets (open-line L p) e (open-answer a) after) where
-    pub open-was-booked : (s : Start) → a ≡ Booked s → Meets (open-line L p) plan (open-answer a) after
+  module _ (L p : ℕ) (e : Plan) (after : List ℕ) (a : OpenAnswer) (empty : e ≡ empty-plan) (h : CarriedOut (open-line L p) (e .rows) after (open-answer a)) where
+    pub open-was-booked : (s : Start) → a ≡ Booked s → CarriedOut (open-line L p) rows after (open-answer a)
     unfolding open-answer
     open-was-booked s told =
         let made = rw (empty, told) at h in
         rw told (booked-from-empty (open-line L p) (s .0) after made)
 
-    pub open-was-refused : (n : ℕ) → a ≡ Refused n → Meets (open-line L p) plan (open-answer a) plan
+    pub open-was-refused : (n : ℕ) → a ≡ Refused n → CarriedOut (open-line L p) rows rows (open-answer a)
     unfolding open-answer
     open-was-refused n told =
         let made = rw (empty, told) at h in

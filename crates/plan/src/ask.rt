@@ -4,6 +4,7 @@ ghost use Prim.Native.Nat.{_<_};
 ghost use Rattle.tree.specs.Asking.{owner};
 ghost use Rattle.tree.specs.Calls.{turns-outcome};
 ghost use Rattle.tree.specs.Record.{treeOf};
+ghost use Rattle.bridge.specs.Rows.{tree-of};
 ghost use Rattle.plan.specs.Ask.{line-found, owner-answer, turns-answer, ShownAs, refused-showing};
 use asking::Owner;
 use paths::Found;
@@ -36,19 +37,26 @@ pub enum TurnsAnswer {
     Refused(u8),
 }
 
-// The owner of a round. It never refuses.
-pub fn owner(plan: Plan, round: u64) -> OwnerAnswer
-    ensures { λ r. ⌜ owner-answer r ≡ owner round (treeOf plan) ⌝ }
+// The owner of a round by a record that is lent. It never refuses.
+pub fn owner_rows(rows: &[u16; 1408], round: u64) -> OwnerAnswer
+    ensures { λ r. ⌜ owner-answer r ≡ owner round (tree-of (now (rows .entry))) ⌝ }
 {
-    if !paths::legal(&plan.rows) {
+    if !paths::legal(rows) {
         return OwnerAnswer::Idle;
     }
-    let found = asking::owner_of(&plan.rows, round);
+    let found = asking::owner_of(rows, round);
     let Owner::Line(line) = found else {
         return OwnerAnswer::Idle;
     };
     let number = line as u64;
     OwnerAnswer::Line(number)
+}
+
+// The same with a plan by value.
+pub fn owner(plan: Plan, round: u64) -> OwnerAnswer
+    ensures { λ r. ⌜ owner-answer r ≡ owner round (treeOf plan) ⌝ }
+{
+    owner_rows(&plan.rows, round)
 }
 
 // The lookup of a line in a record that need not be a tree: the empty plan has no line.

@@ -1,8 +1,9 @@
-// The calls that change a plan: open and close. A plan goes in by value and comes back by value.
+// The calls that change a plan: open and close, each on a record that is lent and with a plan by value.
 ghost use mathlib.Core.Path.{_≡_};
-ghost use mathlib.Core.Bool.{true};
+ghost use mathlib.Core.Bool.{false};
 ghost use Rattle.tree.specs.Calls.{open-line, close-line};
 ghost use Rattle.tree.specs.Record.{legal};
+ghost use Rattle.bridge.specs.Rows.{CarriedOut};
 ghost use Rattle.lines.specs.Answers.{open-answer, close-answer};
 ghost use Rattle.plan.specs.Meets.{empty-plan, Meets};
 use lines::CloseAnswer;
@@ -29,56 +30,57 @@ pub fn empty() -> Plan
     Plan { rows: [0; 1408] }
 }
 
-// Open on a record that is a tree.
-fn open_legal(plan: Plan, line: u64, period: Period) -> Opening
-    requires { ⌜ legal (plan .rows) ≡ true ⌝ }
-    ensures { λ r. ⌜ Meets (open-line line (period .0)) plan (open-answer (r .answer)) (r .plan) ⌝ }
+// Opens a line in a record that is no tree: in the empty plan, which takes the record's place where the line is booked.
+fn open_in_empty(rows: &mut [u16; 1408], line: u64, period: Period) -> OpenAnswer
+    requires { ⌜ legal (now rows) ≡ false ⌝ }
+    ensures { λ r. ⌜ CarriedOut (open-line line (period .0)) (now (rows .entry)) (now (rows .exit)) (open-answer r) ⌝ }
 {
-    let mut next = plan;
-    let answer = lines::open_line(&mut next.rows, line, period.0);
-    Opening { answer, plan: next }
+    let mut fresh = empty();
+    let answer = lines::open_line(&mut fresh.rows, line, period.0);
+    if let OpenAnswer::Booked(_) = answer {
+        *rows = fresh.rows;
+    }
+    answer
 }
 
-// Opens a line: booked with its start, or refused with 1, 2, 3 or 5, the first that applies. The plan is as found where the call is refused.
+// Opens a line in a record that is lent: booked with its start, or refused with 1, 2, 3 or 5, the first that applies.
+// The record is as found where the call is refused.
+pub fn open_rows(rows: &mut [u16; 1408], line: u64, period: Period) -> OpenAnswer
+    ensures { λ r. ⌜ CarriedOut (open-line line (period .0)) (now (rows .entry)) (now (rows .exit)) (open-answer r) ⌝ }
+{
+    if paths::legal(rows) {
+        return lines::open_line(rows, line, period.0);
+    }
+    open_in_empty(rows, line, period)
+}
+
+// The same with a plan by value.
 pub fn open(plan: Plan, line: u64, period: Period) -> Opening
     ensures { λ r. ⌜ Meets (open-line line (period .0)) plan (open-answer (r .answer)) (r .plan) ⌝ }
 {
-    if paths::legal(&plan.rows) {
-        return open_legal(plan, line, period);
-    }
-    let opening = open_legal(empty(), line, period);
-    let answer = opening.answer;
-    match answer {
-        OpenAnswer::Booked(_) => opening,
-        OpenAnswer::Refused(_) => Opening { answer, plan },
-    }
-}
-
-// Close on a record that is a tree.
-fn close_legal(plan: Plan, line: u64) -> Closing
-    requires { ⌜ legal (plan .rows) ≡ true ⌝ }
-    ensures { λ r. ⌜ Meets (close-line line) plan (close-answer (r .answer)) (r .plan) ⌝ }
-{
     let mut next = plan;
-    let answer = lines::close_line(&mut next.rows, line);
-    Closing { answer, plan: next }
+    let answer = open_rows(&mut next.rows, line, period);
+    Opening { answer, plan: next }
 }
 
-// Closes a line, or refuses with 1 or 4. The plan is as found where the call is refused.
+// Closes a line in a record that is lent, or refuses with 1 or 4. The record is as found where the call is refused.
+pub fn close_rows(rows: &mut [u16; 1408], line: u64) -> CloseAnswer
+    ensures { λ r. ⌜ CarriedOut (close-line line) (now (rows .entry)) (now (rows .exit)) (close-answer r) ⌝ }
+{
+    if paths::legal(rows) {
+        return lines::close_line(rows, line);
+    }
+    if 63 < line {
+        return CloseAnswer::Refused(1);
+    }
+    CloseAnswer::Refused(4)
+}
+
+// The same with a plan by value.
 pub fn close(plan: Plan, line: u64) -> Closing
     ensures { λ r. ⌜ Meets (close-line line) plan (close-answer (r .answer)) (r .plan) ⌝ }
 {
-    if paths::legal(&plan.rows) {
-        return close_legal(plan, line);
-    }
-    if 63 < line {
-        return Closing {
-            answer: CloseAnswer::Refused(1),
-            plan,
-        };
-    }
-    Closing {
-        answer: CloseAnswer::Refused(4),
-        plan,
-    }
+    let mut next = plan;
+    let answer = close_rows(&mut next.rows, line);
+    Closing { answer, plan: next }
 }

@@ -3,18 +3,14 @@
 use Prim.Native.Nat.{ℕ, zero, suc, _%_, _≤_, _<_, _∣_}
 use mathlib.Core.Path.{_≡_}
 use mathlib.Core.Bool.{true}
-use native.Mathlib.Nat.{dvd-refl, dvd-zero, dvd-mod-iff, dvd-of-mod-eq-zero, mod-eq-zero-of-dvd, mod-lt, zero-lt-suc, pos-of-dvd-of-pos, le-refl}
+use native.Mathlib.Nat.{dvd-refl, dvd-zero, dvd-mod-iff, dvd-of-mod-eq-zero, mod-lt, zero-lt-suc, pos-of-dvd-of-pos, le-refl}
 use native.Mathlib.Omega.{arith}
-use borrow.Author.Tests.{eqb-true, eq-eqb}
+use borrow.Author.Tests.{eqb-true}
 use Rattle.tree.specs.Numbers.{divides, euclid, gcd}
 
 pub divides-true : (m p : ℕ) → divides m p ≡ true → m ∣ p
 unfolding divides
 divides-true m p h = dvd-of-mod-eq-zero m (eqb-true (p % m) 0 h)
-
-pub dvd-divides : (m p : ℕ) → m ∣ p → divides m p ≡ true
-unfolding divides
-dvd-divides m p h = eq-eqb (p % m) 0 (mod-eq-zero-of-dvd m h)
 
 -- with as many divisions as the second number, Euclid's algorithm ends on a common divisor
 euclid-divides : (n a b : ℕ) → b ≤ n → (euclid n a b ∣ a) × (euclid n a b ∣ b)

@@ -3,7 +3,7 @@
 use Prim.Native.Nat.{ℕ, zero, suc, _<_}
 use native.Mathlib.Omega.{arith}
 use native.Mathlib.Nat.{eq-or-lt-of-le, le-of-suc-le-suc}
-use mathlib.Core.Path.{_≡_, refl, sym, _∙_, ap, ap₂}
+use mathlib.Core.Path.{_≡_, refl, sym, _∙_, ap}
 use mathlib.Core.Logic.{_⊎_, inl, inr}
 use mathlib.Core.Bool.{Bool, true, false, not, true≢false, false≢true}
 use mathlib.Core.Option.{Option, none, some, Option·some-ne-none, Option·none-ne-some}
@@ -74,11 +74,6 @@ module _ {A : Type 0} where
           let same = only (x .index) b (x .offers) in
           e ∙ sym (x .offers) ∙ ap offer same ∙ here
 
-  first-same : (n : ℕ) (f g : ℕ → Option A) → ((i : ℕ) → i < n → f i ≡ g i) → first n f ≡ first n g
-  unfolding first
-  first-same zero f g same = refl
-  first-same (suc n) f g same = ap₂ or-else (first-same n f g (λ i below. same i (omega arith))) (same n (omega arith))
-
 pub if-some : {A : Type 0} (b : Bool) (i a : A) → (if b then some i else none) ≡ some a → (b ≡ true) × (i ≡ a)
 if-some true i a h = (refl, (cc))
 if-some false i a h = absurd (Option·none-ne-some a h)
@@ -146,9 +141,3 @@ all-below-at n test h i below = not-false (test i) (some-below-false n _ (not-tr
 pub all-below-each : (n : ℕ) (test : ℕ → Bool) → ((i : ℕ) → i < n → test i ≡ true) → all-below n test ≡ true
 unfolding all-below
 all-below-each n test h = ap not (some-below-none n _ (λ i below. ap not (h i below)))
-
--- tests that agree below n
-pub all-below-same : (n : ℕ) (f g : ℕ → Bool) → ((i : ℕ) → i < n → f i ≡ g i) → all-below n f ≡ all-below n g
-unfolding all-below some-below smallest
-all-below-same n f g same =
-    ap (λ (o : Option ℕ). not (found o)) (first-same n _ _ (λ i below. ap (λ (b : Bool). if not b then some i else none) (same i below)))

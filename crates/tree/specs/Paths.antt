@@ -1,5 +1,5 @@
 -- The rules as the code follows them, over the paths of the lines. Nothing here has to be believed: that these are document 01's rules
--- over the tree is proved (crate booking).
+-- over the tree is proved (crate bridge).
 -- Assumes nothing.
 use Prim.Native.Nat.{ℕ, zero, suc, _+_, _*_, _/_, _%_}
 use mathlib.Core.Bool.{Bool, true, false, not, _&&_}
