@@ -19,24 +19,24 @@ use Rattle.orders.specs.Packing.{kind-above-1, close-with-period}
 use Rattle.orders.specs.Reading.{filler-set, reading-refusal, reading}
 use Rattle.lists.specs.Lists.{answer-read, order-answer, result, start}
 
--- a refusal of 4 bits, if it is one
-Small : Option ℕ → Type 0
+-- a refusal of one digit that is not 0, if it is one
+unfoldable pub Small : Option ℕ → Type 0
 Small none = Unit
-Small (some n) = n < 16
+Small (some n) = (0 < n) × (n < 10)
 
-small-if : (b : Bool) (n : ℕ) (o : Option ℕ) → n < 16 → Small o → Small (if b then some n else o)
+small-if : (b : Bool) (n : ℕ) (o : Option ℕ) → (0 < n) × (n < 10) → Small o → Small (if b then some n else o)
 unfolding Small
 small-if true n o small rest = small
 small-if false n o small rest = rest
 
-refusal-small : (c : Call) (t : Tree) → Small (refusal c t)
+pub refusal-small : (c : Call) (t : Tree) → Small (refusal c t)
 unfolding Small refusal open-refusal earlier-checks line-refusal first-refusal
 refusal-small (open-line L p) t =
     small-if (line-above-63 L) 1 _ (omega arith)
     (small-if (period-out-of-range p) 2 _ (omega arith) (small-if (is-open L t) 3 _ (omega arith) (small-if (no-room p t) 5 _ (omega arith) tt)))
 refusal-small (close-line L) t = small-if (line-above-63 L) 1 _ (omega arith) (small-if (not (is-open L t)) 4 _ (omega arith) tt)
 
-reading-small : (n : ℕ) → Small (reading-refusal n)
+pub reading-small : (n : ℕ) → Small (reading-refusal n)
 unfolding Small reading-refusal first-refusal
 reading-small n =
     small-if (kind-above-1 (kind n)) 6 _ (omega arith)
@@ -46,9 +46,9 @@ pub record Fits (a : Answer) : Type 0 where
   pub result-fits : result a < 16
   pub start-fits : start a < 4096
 
-refused-fits : (n : ℕ) → n < 16 → Fits (refused n)
+refused-fits : (n : ℕ) → (0 < n) × (n < 10) → Fits (refused n)
 unfolding result start
-refused-fits n small = record { result-fits = small; start-fits = omega arith }
+refused-fits n small = record { result-fits = omega arith; start-fits = omega arith }
 
 reply-fits : (c : Call) (t : Tree) → Legal t → refusal c t ≡ none → Fits (reply c t)
 unfolding refusal reply result start

@@ -20,6 +20,16 @@ pub in-threes : (n : ℕ) → n % 3 ≡ 0 → length-refused n ≡ ltb 65535 n
 unfolding length-refused
 in-threes n threes = rw (eq-eqb (n % 3) 0 threes)
 
+pub record Fit (n : ℕ) : Type 0 where
+  pub threes : n % 3 ≡ 0
+  pub not-long : n ≤ 65535
+
+pub fit-length : (n : ℕ) → length-refused n ≡ false → Fit n
+unfolding length-refused
+fit-length n h =
+    let fit = neither (not (eqb (n % 3) 0)) (ltb 65535 n) h in
+    record { threes = eqb-true (n % 3) 0 (not-false _ (fit .0)); not-long = ltb-false 65535 n (fit .1) }
+
 -- The two checks in their sequence
 
 module _ (n room : ℕ) where
@@ -42,13 +52,13 @@ pub record Passed (n room : ℕ) : Type 0 where
   pub has-room : 2 * (n / 3) ≤ room
 
 pub passed : (n room : ℕ) → list-refusal n room ≡ none → Passed n room
-unfolding list-refusal first-refusal room-refused length-refused
+unfolding list-refusal first-refusal room-refused
 passed n room h =
     let seven = none-strikes (length-refused n) 7 _ h in
     let eight = none-strikes (room-refused n room) 8 _ (seven .1) in
-    let fit = neither (not (eqb (n % 3) 0)) (ltb 65535 n) (seven .0) in
+    let fit = fit-length n (seven .0) in
     record {
-      threes = eqb-true (n % 3) 0 (not-false _ (fit .0));
-      not-long = ltb-false 65535 n (fit .1);
+      threes = fit .threes;
+      not-long = fit .not-long;
       has-room = ltb-false room (2 * (n / 3)) (eight .0);
     }

@@ -1,0 +1,3 @@
+-- What a reader must believe of `book`: document 01, section Orders, last paragraph, as definitions.
+pub mod BookText
+pub mod Writing
