@@ -50,6 +50,7 @@ fn main() {
         None => compare_and_measure(),
         Some("book") => plain::book::run().expect("standard input and output can be used"),
         Some("profile") => measure::profile(words),
-        Some(word) => panic!("{word}: neither `book` nor `profile`"),
+        Some("list") => measure::write_list(words),
+        Some(word) => panic!("{word}: none of `book`, `profile` and `list`"),
     }
 }

@@ -4,6 +4,7 @@ use crate::inputs::{list_of, plan_of, rounds_for, ORDERS};
 use crate::programs::programs;
 use crate::{plain, Calls, Record, LIBRARY, PLAIN, RECORD};
 use std::hint::black_box;
+use std::io::Write;
 use std::path::Path;
 use std::time::Instant;
 
@@ -133,4 +134,12 @@ pub fn profile(mut words: impl Iterator<Item = String>) {
     let times: usize = number().expect("a number of tasks");
     let mut task = (MEASURED[row].task)(calls, lines);
     (0..times).for_each(|_| task());
+}
+
+/// For a profile of `book`: the list of so many lines, to standard output.
+pub fn write_list(mut words: impl Iterator<Item = String>) {
+    let lines = words.next().and_then(|word| word.parse().ok());
+    let list = list_of(lines.expect("a number of lines")).bytes;
+    let written = std::io::stdout().write_all(&list);
+    written.expect("standard output can be written");
 }

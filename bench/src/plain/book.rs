@@ -9,6 +9,9 @@ const HEADER: &str = "order kind line period result start\n";
 /// Room for an order's line: six words of at most 5, 1, 2, 4, 1 and 4 digits, and what stands between them.
 const LINE: usize = 23;
 
+/// Room for the longest list and a little more, so that its end is seen without more room.
+const ROOM: usize = 65_536;
+
 fn push_number(text: &mut Vec<u8>, number: u16) {
     let mut digits = [0; 5];
     let mut rest = number;
@@ -64,7 +67,7 @@ fn book(list: &[u8]) -> Vec<u8> {
 
 /// Reads standard input and writes what `book` prints to standard output.
 pub fn run() -> io::Result<()> {
-    let mut list = Vec::new();
+    let mut list = Vec::with_capacity(ROOM);
     io::stdin().lock().read_to_end(&mut list)?;
     io::stdout().lock().write_all(&book(&list))
 }
