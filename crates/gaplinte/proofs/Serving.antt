@@ -4,16 +4,24 @@ use Prim.Native.Nat.{ℕ}
 use native.Mathlib.Omega.{arith}
 use mathlib.Core.Path.{_≡_, refl, _∙_, ap}
 use mathlib.Core.List.{List, [], _∷_}
-use mathlib.Core.Option.{Option}
+use mathlib.Core.Option.{Option, none, some}
+use lib.Dec.{ltb}
 use lib.ListN.{length, set}
 use Rattle.tree.specs.declared.Plan.{Plan}
+use Rattle.tree.specs.Search.{if_then_else_}
 use Rattle.tree.specs.Asking.{owner, Shown}
-use Rattle.tree.specs.Calls.{Call, Answer, Outcome, gives, refuses, show-outcome, turns-outcome}
-use Rattle.tree.specs.Record.{treeOf}
+use Rattle.tree.specs.Calls.{Call, open-line, close-line, Answer, refused, refusal, reply, carried-out, answer-unless, answer, Outcome, gives, refuses, show-outcome, turns-outcome}
+use Rattle.tree.specs.Record.{treeOf, recordOf}
+use Rattle.bridge.specs.Rows.{tree-of, CarriedOut}
+use Rattle.lines.specs.declared.OpenAnswer.{OpenAnswer}
+use Rattle.lines.specs.declared.CloseAnswer.{CloseAnswer}
+use Rattle.lines.specs.Answers.{open-answer, close-answer}
 use Rattle.plan.specs.declared.walker.WalkerPlace.{WalkerPlace}
 use Rattle.plan.specs.declared.walker.WalkAnswer.{WalkAnswer}
-use Rattle.plan.specs.Meets.{Meets}
+use Rattle.plan.specs.Meets.{plan-unless, plan-after, Meets}
 use Rattle.plan.specs.Walker.{walk-answer, WalkedOn}
+use Rattle.plan.proofs.Changes.{carried-meets}
+use Rattle.history.proofs.Replaying.{period-stands-for}
 use Rattle.lists.specs.Lists.{list-refusal}
 use Rattle.lists.specs.Runs.{ListRan}
 use Rattle.gaplinte.specs.Answer.{answer-number, zero-value, numbers-or, Answers, Leaves}
@@ -38,25 +46,57 @@ wrong-leaves Fit before ruled wrong = record { contents-are = λ h. absurd (wron
 pub change-wrong : (c : Call) (rows : List ℕ) → (Whole rows → ⊥) → ChangeServed c rows rows (answer-number (refuses 255))
 change-wrong c rows wrong = record { answers = wrong-answers _ _ wrong; rows = wrong-leaves _ _ _ wrong }
 
-pub change-served : (c : Call) (before after : List ℕ) (a : Answer) (plan next : Plan) (r : ℕ) →
-    Whole before → plan ≡ plan-of before → Meets c plan a next → after ≡ next .rows → r ≡ answer-number (change-outcome a) → ChangeServed c before after r
-change-served c before after a plan next r whole copied meets written told =
-    let made = rw copied at meets in
-    record {
-      answers = fits-answers _ _ _ whole (told ∙ ap (λ (b : Answer). answer-number (change-outcome b)) (made .answer-is));
-      rows = fits-leaves _ _ _ _ whole (written ∙ ap (λ (p : Plan). p .rows) (made .plan-is));
-    }
+-- the contracts of the calls on a lent record, said of the slice that was copied, the period that was asked and the case of the answer
+module _ (before copied numbers : List ℕ) (same : copied ≡ before) (L : ℕ) where
+  pub open-carried : (p q : ℕ) (a b : OpenAnswer) → q ≡ (if ltb 4095 p then 4096 else p) → CarriedOut (open-line L q) copied numbers (open-answer a) → a ≡ b →
+      Meets (open-line L p) (plan-of before) (open-answer b) (plan-of numbers)
+  unfolding plan-of
+  open-carried p q a b asked carried is =
+      period-stands-for L p (plan-of before) (open-answer b) (plan-of numbers)
+      (carried-meets _ (plan-of before) numbers (open-answer b) (rw (same, asked, is) at carried))
+
+  pub close-carried : (a b : CloseAnswer) → CarriedOut (close-line L) copied numbers (close-answer a) → a ≡ b → Meets (close-line L) (plan-of before) (close-answer b) (plan-of numbers)
+  unfolding plan-of
+  close-carried a b carried is = carried-meets (close-line L) (plan-of before) numbers (close-answer b) (rw (same, is) at carried)
+
+-- a call that answers a refusal was refused, and the plan after it is the plan as found
+refused-keeps : (c : Call) (plan : Plan) (n : ℕ) → refused n ≡ answer c (treeOf plan) → plan ≡ plan-after c plan
+unfolding answer answer-unless reply plan-after plan-unless
+refused-keeps c plan n told = by-refusal c (refusal c (treeOf plan)) told
+  where
+    by-refusal : (d : Call) (o : Option ℕ) → refused n ≡ answer-unless o (reply d (treeOf plan)) → plan ≡ plan-unless o plan (recordOf (carried-out c (treeOf plan)))
+    by-refusal d (some k) h = refl
+    by-refusal (open-line L p) none h = let z : _≡_ {A = ℕ} 0 1 = cc in absurd (omega arith)
+    by-refusal (close-line L) none h = let z : _≡_ {A = ℕ} 0 1 = cc in absurd (omega arith)
+
+module _ (c : Call) (before numbers : List ℕ) (whole : Whole before) where
+  -- the call was carried out, and the numbers that it left took the place of those before
+  pub change-served : (after : List ℕ) (a : Answer) (r : ℕ) → Meets c (plan-of before) a (plan-of numbers) → after ≡ numbers → r ≡ answer-number (change-outcome a) → ChangeServed c before after r
+  unfolding plan-of
+  change-served after a r meets written told =
+      record {
+        answers = fits-answers _ _ _ whole (told ∙ ap (λ (b : Answer). answer-number (change-outcome b)) (meets .answer-is));
+        rows = fits-leaves _ _ _ _ whole (written ∙ ap (λ (p : Plan). p .rows) (meets .plan-is));
+      }
+
+  -- the call was refused, and nothing was written
+  pub change-refused : (n r : ℕ) → Meets c (plan-of before) (refused n) (plan-of numbers) → r ≡ answer-number (refuses n) → ChangeServed c before before r
+  unfolding change-outcome plan-of
+  change-refused n r meets told =
+      record {
+        answers = fits-answers _ _ _ whole (told ∙ ap (λ (b : Answer). answer-number (change-outcome b)) (meets .answer-is));
+        rows = fits-leaves _ _ _ _ whole (ap (λ (p : Plan). p .rows) (refused-keeps c (plan-of before) n (meets .answer-is)));
+      }
 
 -- Owner
 
 pub owner-wrong : (rows : List ℕ) (round : ℕ) → (Whole rows → ⊥) → OwnerServed rows round (answer-number (refuses 255))
 owner-wrong rows round wrong = record { answers = wrong-answers _ _ wrong }
 
-pub owner-served : (rows : List ℕ) (round : ℕ) (plan : Plan) (o : Option ℕ) (r : ℕ) →
-    Whole rows → plan ≡ plan-of rows → o ≡ owner round (treeOf plan) → r ≡ line-or-64 o → OwnerServed rows round r
-unfolding answer-number
-owner-served rows round plan o r whole copied asked told =
-    record { answers = fits-answers _ _ _ whole (told ∙ ap line-or-64 (rw copied at asked)) }
+pub owner-served : (rows : List ℕ) (round : ℕ) (o : Option ℕ) (r : ℕ) →
+    Whole rows → o ≡ owner round (tree-of rows) → r ≡ line-or-64 o → OwnerServed rows round r
+unfolding answer-number plan-of tree-of
+owner-served rows round o r whole asked told = record { answers = fits-answers _ _ _ whole (told ∙ ap line-or-64 asked) }
 
 -- A list of orders
 

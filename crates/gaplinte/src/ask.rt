@@ -27,7 +27,8 @@ pub extern "C" fn gaplinte_owner(rows: &[u16], round: u64) -> u64
     if rows.len() != 1408 {
         return WRONG_LENGTH;
     }
-    owner_number(plan::ask::owner(rows::copy_in(rows), round))
+    let numbers = rows::copied(rows);
+    owner_number(plan::ask::owner_rows(&numbers, round))
 }
 
 // The number that stands for an answer of turns.

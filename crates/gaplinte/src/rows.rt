@@ -16,14 +16,30 @@ pub fn copy(from: &[u16], to: &mut [u16])
     }
 }
 
+// The numbers of the slice, in an array.
+pub fn copied(rows: &[u16]) -> [u16; 1408]
+    requires { ⌜ Whole (now rows) ⌝ }
+    ensures { λ r. ⌜ r ≡ now (rows .entry) ⌝ }
+{
+    let mut numbers = [0u16; 1408];
+    copy(rows, &mut numbers);
+    numbers
+}
+
 // The plan whose record the slice is.
 pub fn copy_in(rows: &[u16]) -> Plan
     requires { ⌜ Whole (now rows) ⌝ }
     ensures { λ r. ⌜ r ≡ plan-of (now (rows .entry)) ⌝ }
 {
-    let mut numbers = [0u16; 1408];
-    copy(rows, &mut numbers);
-    Plan { rows: numbers }
+    Plan { rows: copied(rows) }
+}
+
+// The slice becomes a copy of the array. A reference to an array needs no proof of its length from the caller.
+pub fn copy_back(numbers: &[u16; 1408], rows: &mut [u16])
+    requires { ⌜ Whole (now rows) ⌝ }
+    ensures { λ _. ⌜ now (rows .exit) ≡ now (numbers .entry) ⌝ }
+{
+    copy(numbers, rows);
 }
 
 // The slice becomes the record of a plan.
@@ -31,5 +47,5 @@ pub fn copy_out(plan: Plan, rows: &mut [u16])
     requires { ⌜ Whole (now rows) ⌝ }
     ensures { λ _. ⌜ now (rows .exit) ≡ plan .rows ⌝ }
 {
-    copy(&plan.rows, rows);
+    copy_back(&plan.rows, rows);
 }

@@ -1,8 +1,11 @@
--- `gaplinte::change::gaplinte_close` meets its contract: the slice has another length, or `plan::change::close` is called on its record.
+-- `gaplinte::change::gaplinte_close` meets its contract: the slice has a wrong length, or a line is closed in a copy of its record.
 -- Assumes nothing.
+use mathlib.Core.Path.{refl}
 use borrow.Author.Needs.{needs}
+use Rattle.lines.specs.Answers.{close-answer}
 use Rattle.gaplinte.specs.Answer.{answer-number}
-use Rattle.gaplinte.proofs.Serving.{change-wrong, change-served}
+use Rattle.gaplinte.specs.Served.{change-outcome}
+use Rattle.gaplinte.proofs.Serving.{change-wrong, close-carried, change-served, change-refused}
 use Rattle.gaplinte.proofs.change.gaplinte_close.Statement.{statement}
 use Rattle.gaplinte.proofs.change.gaplinte_close.Tie as tie
 
@@ -10,37 +13,61 @@ returns : tie.Need-returns
 unfolding answer-number
 returns c = change-wrong _ _ (c .if1 .taken)
 
-copy-in-requires : tie.Need-copy-in-requires
-copy-in-requires c κs = search needs
+copied-requires : tie.Need-copied-requires
+copied-requires c κs = search needs
 
-close-requires : tie.Need-close-requires
-close-requires c κs = search needs
+close-rows-requires : tie.Need-close-rows-requires
+close-rows-requires c κs = search needs
 
-copy-out-requires : tie.Need-copy-out-requires
-copy-out-requires c κs = search needs
+enum-told : tie.Need-enum-told
+enum-told c = search needs
 
-close-number-requires : tie.Need-close-number-requires
-close-number-requires c κs = search needs
+copy-back-requires : tie.Need-copy-back-requires
+copy-back-requires c κs = search needs
+
+enum-known-answer : tie.Need-enum-known-answer
+enum-known-answer c = search needs
+
+refused-requires : tie.Need-refused-requires
+refused-requires c κs = search needs
 
 same-length : tie.Need-same-length
 same-length c = search needs
 
 returns-2 : tie.Need-returns-2
+unfolding answer-number change-outcome close-answer
 returns-2 c =
-    let written = c .before .before .before in
-    let called = written .before .before in
-    let copied = called .before in
-    let whole = copied .before .before .if1 .left in
-    change-served _ _ _ _ _ _ _ whole (copied .copy-in .ensures) (called .close .ensures) (written .copy-out .ensures) (c .close-number .ensures)
+    let written = c .before .before in
+    let match = written .before .before .before in
+    let called = match .before .before in
+    let copied = called .before .before in
+    let meets = close-carried _ _ _ (copied .copied .ensures) _ _ _ (called .close-rows .ensures) (match .enum-told .given .1) in
+    change-served _ _ _ (copied .before .before .if1 .left) _ _ _ meets (written .copy-back .ensures) refl
+
+same-length-2 : tie.Need-same-length-2
+same-length-2 c = search needs
+
+returns-3 : tie.Need-returns-3
+unfolding close-answer
+returns-3 c =
+    let match = c .before .before in
+    let called = match .before .before in
+    let copied = called .before .before in
+    let meets = close-carried _ _ _ (copied .copied .ensures) _ _ _ (called .close-rows .ensures) (match .answer .given .1) in
+    change-refused _ _ _ (copied .before .before .if1 .left) _ _ meets (c .refused .ensures)
 
 pub gaplinte-close-spec : {M : Type 1} → statement M
 gaplinte-close-spec =
     tie.close
     (tie.spec
     returns
-    copy-in-requires
-    close-requires
-    copy-out-requires
-    close-number-requires
+    copied-requires
+    close-rows-requires
+    enum-told
+    copy-back-requires
+    enum-known-answer
+    refused-requires
     same-length
-    returns-2)
+    returns-2
+    same-length-2
+    returns-3)
