@@ -1,0 +1,194 @@
+//! Both give the same answers and leave the same records and bytes, on generated calls and lists.
+
+use crate::inputs::{list_of, ORDERS};
+use crate::measure::LINES;
+use crate::numbers::Numbers;
+use crate::{plain, programs, Calls, Record, LIBRARY, PLAIN, RECORD, SEED};
+use std::path::Path;
+
+const CALLS: usize = 100_000;
+const LISTS: usize = 10_000;
+const PROGRAM_RUNS: usize = 200;
+
+/// What was seen in the generated calls.
+#[derive(Default)]
+struct Seen {
+    answers: [usize; 9],
+    owned: usize,
+    damaged: usize,
+    no_tree: usize,
+    most_lines: usize,
+}
+
+impl Seen {
+    /// Notes an answer to an open, a close or a list.
+    fn answer(&mut self, number: u64) {
+        self.answers[(number >> 56) as usize] += 1;
+    }
+
+    /// A damaged copy of a record.
+    fn damaged(&mut self, rows: &Record, numbers: &mut Numbers) -> Record {
+        let mut copy = *rows;
+        numbers.damage(&mut copy);
+        self.damaged += 1;
+        self.no_tree += usize::from(!plain::is_tree(&copy));
+        copy
+    }
+
+    fn print(&self, what: &str) {
+        println!("{what}: equal answers, records and bytes");
+        println!("  answers by number, 0 to 8: {:?}", self.answers);
+        println!(
+            "  {} on damaged records, {} of which are no tree; plans of up to {} lines",
+            self.damaged, self.no_tree, self.most_lines
+        );
+    }
+}
+
+fn open_lines(rows: &Record) -> usize {
+    (0..64).filter(|line| rows[22 * line] != 0).count()
+}
+
+/// One generated open or close by both: the same answer, which is returned, and the same record afterwards.
+fn compare_change(rows: &mut Record, numbers: &mut Numbers) -> u64 {
+    let line = match numbers.below(64) {
+        0 => numbers.next(),
+        _ => numbers.below(66),
+    };
+    let period = numbers.period();
+    let opens = numbers.below(100) < 62;
+    let before = *rows;
+    let mut other = before;
+    let call = |calls: Calls, rows: &mut Record| match opens {
+        true => (calls.open)(rows, line, period),
+        false => (calls.close)(rows, line),
+    };
+    let answer = call(LIBRARY, rows);
+    assert_eq!(answer, call(PLAIN, &mut other), "the answers differ");
+    assert!(*rows == other, "the records differ");
+    let kept = answer < plain::refused(1) || *rows == before;
+    assert!(kept, "a refusal changed the record");
+    answer
+}
+
+/// One generated round: the same owner. Answers whether it has one.
+fn compare_owner(rows: &Record, numbers: &mut Numbers) -> bool {
+    let round = numbers.round();
+    let owner = (LIBRARY.owner)(rows, round);
+    assert_eq!(owner, (PLAIN.owner)(rows, round), "the owners differ");
+    assert!(owner <= 64);
+    owner < 64
+}
+
+/// Opens and closes, each with an owner asked before it. Every fourth is on a damaged copy.
+fn compare_calls() {
+    let mut numbers = Numbers(SEED);
+    let mut rows = [0; RECORD];
+    let mut seen = Seen::default();
+    for turn in 0..CALLS {
+        if turn % 2_000 == 0 {
+            rows = [0; RECORD];
+        }
+        let mut copy;
+        let record = if turn % 4 == 0 {
+            copy = seen.damaged(&rows, &mut numbers);
+            &mut copy
+        } else {
+            &mut rows
+        };
+        seen.owned += usize::from(compare_owner(record, &mut numbers));
+        seen.answer(compare_change(record, &mut numbers));
+        seen.most_lines = seen.most_lines.max(open_lines(&rows));
+    }
+    seen.print(&format!("{CALLS} opens and closes, with as many owners"));
+    println!("  {} of the rounds are owned", seen.owned);
+}
+
+/// One list by both, with so many bytes lent for its answers: the same answer, record and bytes.
+fn compare_list(rows: &mut Record, list: &[u8], room: usize) -> u64 {
+    let before = *rows;
+    let mut other = before;
+    let lent = vec![0xa5; room];
+    let (mut answers, mut other_answers) = (lent.clone(), lent.clone());
+    let answer = (LIBRARY.run_list)(rows, list, &mut answers);
+    let other_answer = (PLAIN.run_list)(&mut other, list, &mut other_answers);
+    assert_eq!(answer, other_answer, "the answers differ");
+    assert!(*rows == other, "the records differ");
+    assert!(answers == other_answers, "the bytes differ");
+    let kept = answer == 0 || (*rows == before && answers == lent);
+    assert!(kept, "a refusal changed the record or the bytes");
+    answer
+}
+
+/// Lists of up to 39 orders, some of another length and some with too short a buffer. Every fourth is on a damaged copy.
+fn compare_lists() {
+    let mut numbers = Numbers(SEED);
+    let mut rows = [0; RECORD];
+    let mut seen = Seen::default();
+    for turn in 0..LISTS {
+        if turn % 100 == 0 {
+            rows = [0; RECORD];
+        }
+        let list = numbers.list();
+        let enough = list.len() / 3 * 2;
+        let room = match numbers.below(8) {
+            0 => numbers.below(1 + enough as u64) as usize,
+            _ => enough + numbers.below(4) as usize,
+        };
+        let answer = if turn % 4 == 0 {
+            compare_list(&mut seen.damaged(&rows, &mut numbers), &list, room)
+        } else {
+            compare_list(&mut rows, &list, room)
+        };
+        seen.answer(answer);
+        seen.most_lines = seen.most_lines.max(open_lines(&rows));
+    }
+    for length in [65_532, 65_535, 65_536, 65_537, 65_538, 200_001] {
+        compare_list(&mut rows, &vec![0; length], length);
+    }
+    seen.print(&format!("{LISTS} lists"));
+}
+
+/// A slice of a wrong length is refused with 255, before everything else, and left alone.
+fn compare_lengths() {
+    for length in [0, 1, RECORD - 1, RECORD + 1, 2 * RECORD] {
+        for calls in [LIBRARY, PLAIN] {
+            let mut rows = vec![7; length];
+            let mut answers = [9; 4];
+            assert_eq!((calls.open)(&mut rows, 64, 0), plain::WRONG_LENGTH);
+            assert_eq!((calls.close)(&mut rows, 64), plain::WRONG_LENGTH);
+            assert_eq!((calls.owner)(&rows, 1), plain::WRONG_LENGTH);
+            let answer = (calls.run_list)(&mut rows, &[0; 4], &mut answers);
+            assert_eq!(answer, plain::WRONG_LENGTH);
+            assert!(rows.iter().all(|&number| number == 7) && answers == [9; 4]);
+        }
+    }
+}
+
+/// The program `book`: the measured lists, some generated ones, and lists of other lengths.
+fn compare_programs(folder: &Path) {
+    let mut numbers = Numbers(SEED);
+    for _ in 0..PROGRAM_RUNS {
+        programs::compare(folder, &numbers.list());
+    }
+    for length in [0, 65_534, 65_535, 65_536, 65_538, 200_001] {
+        programs::compare(folder, &vec![0; length]);
+    }
+    for lines in LINES {
+        let list = list_of(lines);
+        let bytes = programs::compare(folder, &list.bytes);
+        println!(
+            "`book` on {ORDERS} orders, {:.1} lines on average: {bytes} equal bytes\n  results 0 to 6: {:?}",
+            list.mean_lines, list.answers
+        );
+    }
+    println!("`book` on {PROGRAM_RUNS} generated lists and lists of other lengths: equal bytes\n");
+}
+
+/// Everything that the two are compared on.
+pub fn compare_answers(folder: &Path) {
+    compare_calls();
+    compare_lists();
+    compare_lengths();
+    compare_programs(folder);
+}

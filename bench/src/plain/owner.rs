@@ -1,0 +1,43 @@
+//! The owner of a round.
+
+use super::paths::{is_closed, legal, same_node};
+use super::{plan_in, Path, Plan, LINES, ROWS, WRONG_LENGTH};
+
+/// What is answered for an idle round.
+const IDLE: u64 = 64;
+
+/// The line of smallest number that takes this edge of the node at a level of a path.
+fn line_under(plan: &Plan, path: &Path, level: usize, edge: u16) -> Option<usize> {
+    plan.iter()
+        .position(|other| other[level][1] == edge && same_node(path, other, level))
+}
+
+fn ends_below(path: &Path, level: usize) -> bool {
+    path.get(level + 1).is_none_or(|row| row[0] == 0)
+}
+
+/// The walk goes down from the root, at each node to the edge that the round selects.
+fn owner_of(plan: &Plan, round: u64) -> Option<usize> {
+    let mut line = (0..LINES).find(|&line| !is_closed(&plan[line]))?;
+    let mut rest = round;
+    for level in 0..ROWS {
+        let weight = u64::from(plan[line][level][0]);
+        line = line_under(plan, &plan[line], level, (rest % weight) as u16)?;
+        if ends_below(&plan[line], level) {
+            return Some(line);
+        }
+        rest /= weight;
+    }
+    None
+}
+
+/// The line that owns a round, or 64. A record that is no tree counts as the empty plan.
+pub fn owner(rows: &[u16], round: u64) -> u64 {
+    let Some(plan) = plan_in(rows) else {
+        return WRONG_LENGTH;
+    };
+    if !legal(plan) {
+        return IDLE;
+    }
+    owner_of(plan, round).map_or(IDLE, |line| line as u64)
+}

@@ -1,0 +1,95 @@
+//! The search for the chosen candidate.
+
+use super::paths::{length, same_node};
+use super::Plan;
+
+/// The node at a level of a line's path, with its offset and its step.
+#[derive(Clone, Copy)]
+pub struct Node {
+    pub line: usize,
+    pub level: usize,
+    pub offset: u16,
+    pub step: u16,
+}
+
+/// A candidate: its node, its divisor, and the class that is taken.
+#[derive(Clone, Copy)]
+pub struct Spot {
+    pub node: Node,
+    pub divisor: u16,
+    pub class: u16,
+}
+
+fn gcd(a: u16, b: u16) -> u16 {
+    let (mut larger, mut smaller) = (a, b);
+    while smaller != 0 {
+        (larger, smaller) = (smaller, larger % smaller);
+    }
+    larger
+}
+
+/// The smallest class modulo d that no line through the node takes.
+fn free_class(plan: &Plan, node: Node, d: u16) -> Option<u16> {
+    let path = &plan[node.line];
+    (0..d).find(|&class| {
+        !plan
+            .iter()
+            .any(|other| other[node.level][1] % d == class && same_node(path, other, node.level))
+    })
+}
+
+fn spot_at(plan: &Plan, node: Node, period: u16) -> Option<Spot> {
+    let divisor = gcd(plan[node.line][node.level][0], period / node.step);
+    let class = free_class(plan, node, divisor)?;
+    Some(Spot {
+        node,
+        divisor,
+        class,
+    })
+}
+
+fn comes_first(node: Node, best: Option<Spot>) -> bool {
+    let Some(Spot { node: first, .. }) = best else {
+        return true;
+    };
+    if node.level == first.level {
+        return node.offset < first.offset;
+    }
+    first.level < node.level
+}
+
+fn seen_earlier(plan: &Plan, node: Node) -> bool {
+    let (earlier, path) = (&plan[..node.line], &plan[node.line]);
+    earlier
+        .iter()
+        .any(|other| same_node(other, path, node.level))
+}
+
+fn better(plan: &Plan, node: Node, period: u16, best: Option<Spot>) -> Option<Spot> {
+    if !comes_first(node, best) || !period.is_multiple_of(node.step) || seen_earlier(plan, node) {
+        return best;
+    }
+    spot_at(plan, node, period).or(best)
+}
+
+fn best_on_path(plan: &Plan, line: usize, period: u16, earlier: Option<Spot>) -> Option<Spot> {
+    let path = &plan[line];
+    let mut best = earlier;
+    let mut node = Node {
+        line,
+        level: 0,
+        offset: 0,
+        step: 1,
+    };
+    for (level, [weight, edge]) in path[..length(path)].iter().enumerate() {
+        node.level = level;
+        best = better(plan, node, period, best);
+        node.offset += edge * node.step;
+        node.step *= weight;
+    }
+    best
+}
+
+pub fn best_candidate(plan: &Plan, period: u16) -> Option<Spot> {
+    (0..plan.len()).fold(None, |best, line| best_on_path(plan, line, period, best))
+}
