@@ -1,10 +1,10 @@
 -- How long the text of `book` can be: the header has 36 bytes, and each of at most 21,845 lines at most 23.
 -- Assumes nothing.
-use Prim.Native.Nat.{ℕ, suc, _+_, _*_, _/_, _%_, _<_, _≤_}
+use Prim.Native.Nat.{ℕ, suc, _+_, _*_, _/_, _≤_}
 use native.Mathlib.Omega.{arith}
 use mathlib.Core.Path.{_≡_, refl}
 use mathlib.Core.Bool.{Bool, true, false}
-use mathlib.Core.List.{List, [], _∷_, _++_}
+use mathlib.Core.List.{List, [], _∷_}
 use lib.ListN.{length, length-append}
 use Rattle.tree.specs.Search.{if_then_else_}
 use Rattle.tree.specs.Tree.{nothing}
@@ -14,7 +14,7 @@ use Rattle.lists.specs.Lists.{orders-of, list-answers, length-refused}
 use Rattle.lists.proofs.ListChecks.{fit-length}
 use Rattle.lists.proofs.OrdersInTurn.{orders-counted}
 use Rattle.book_text.specs.Ascii.{ascii}
-use Rattle.book_text.specs.BookText.{header, list-line, order-line, order-lines, book-text}
+use Rattle.book_text.specs.BookText.{header, list-line, order-lines, book-text}
 use Rattle.book_text.specs.Writing.{longest-text}
 use Rattle.book_text.proofs.Printable.{AllPrintable, all-printable}
 use Rattle.book_text.proofs.OrderLine.{order-line-length}
