@@ -6,14 +6,15 @@ ghost use lib.ListN.{length, take};
 ghost use Rattle.io.specs.Counts.{Counts};
 ghost use Rattle.book_text.specs.BookText.{book-text};
 ghost use Rattle.book_text.specs.Writing.{longest-text};
+use book_text::LONGEST_TEXT;
 use libc::STDIN_FILENO;
 use libc::STDOUT_FILENO;
 
 // Room for the longest text.
-fn text_buffer() -> [u8; 502471]
-    ensures { λ r. ⌜ 502471 ≡ length r ⌝ }
+fn text_buffer() -> [u8; LONGEST_TEXT]
+    ensures { λ r. ⌜ longest-text ≡ length r ⌝ }
 {
-    [0; 502471]
+    [0; LONGEST_TEXT]
 }
 
 // Writes the whole text for an input, which is what main then prints.

@@ -2,7 +2,7 @@
 -- Assumes nothing.
 use Prim.Native.Nat.{ℕ}
 use mathlib.Core.Path.{_≡_, refl}
-use mathlib.Core.List.{List, [], _∷_}
+use mathlib.Core.List.{List, [], _∷_, _++_}
 use Rattle.tree.specs.Numbers.{divides, euclid, gcd}
 use Rattle.tree.specs.Search.{found, or-else, first, smallest, some-below, all-below}
 use Rattle.tree.specs.Tree.{nothing, present, product, sum-from, sum, path, is-open, path-of, period-of, start-of, at-digits, at, way-by-digits, way, step}
@@ -15,6 +15,7 @@ use Rattle.orders.specs.Order.{order-of, kind, line, period, filler}
 use Rattle.orders.specs.Packing.{kind-above-1, close-with-period}
 use Rattle.orders.specs.Reading.{filler-set, reading-refusal, call-of, reading}
 use Rattle.lists.specs.Lists.{answer-read, after-read, order-answer, order-after, orders-of, list-answers, result, length-refused}
+use Rattle.book_text.specs.Ascii.{ascii}
 use Rattle.book_text.specs.BookText.{last-digits, decimal, text-line, header, list-line, start-word, order-line, order-lines, book-text}
 
 abbrev case-i : List ℕ
@@ -23,25 +24,20 @@ case-i =
 
 pub case-i-printed :
     book-text case-i
-    ≡ (0x6f ∷ 0x72 ∷ 0x64 ∷ 0x65 ∷ 0x72 ∷ 0x20 ∷ 0x6b ∷ 0x69 ∷ 0x6e ∷ 0x64 ∷ 0x20 ∷ 0x6c ∷ 0x69 ∷ 0x6e ∷ 0x65 ∷ 0x20 ∷ 0x70 ∷ 0x65 ∷ 0x72 ∷ 0x69 ∷ 0x6f ∷ 0x64 ∷ 0x20 ∷ 0x72 ∷ 0x65 ∷ 0x73 ∷ 0x75 ∷ 0x6c ∷ 0x74 ∷ 0x20 ∷ 0x73 ∷ 0x74 ∷ 0x61 ∷ 0x72 ∷ 0x74 ∷ 0x0a
-    ∷ 0x31 ∷ 0x20 ∷ 0x30 ∷ 0x20 ∷ 0x31 ∷ 0x20 ∷ 0x36 ∷ 0x20 ∷ 0x30 ∷ 0x20 ∷ 0x30 ∷ 0x0a
-    ∷ 0x32 ∷ 0x20 ∷ 0x30 ∷ 0x20 ∷ 0x32 ∷ 0x20 ∷ 0x32 ∷ 0x20 ∷ 0x30 ∷ 0x20 ∷ 0x31 ∷ 0x0a
-    ∷ 0x33 ∷ 0x20 ∷ 0x30 ∷ 0x20 ∷ 0x33 ∷ 0x20 ∷ 0x33 ∷ 0x20 ∷ 0x35 ∷ 0x20 ∷ 0x2d ∷ 0x0a
-    ∷ 0x34 ∷ 0x20 ∷ 0x31 ∷ 0x20 ∷ 0x32 ∷ 0x20 ∷ 0x30 ∷ 0x20 ∷ 0x30 ∷ 0x20 ∷ 0x2d ∷ 0x0a
-    ∷ 0x35 ∷ 0x20 ∷ 0x30 ∷ 0x20 ∷ 0x33 ∷ 0x20 ∷ 0x33 ∷ 0x20 ∷ 0x35 ∷ 0x20 ∷ 0x2d ∷ 0x0a
-    ∷ 0x36 ∷ 0x20 ∷ 0x31 ∷ 0x20 ∷ 0x32 ∷ 0x20 ∷ 0x30 ∷ 0x20 ∷ 0x34 ∷ 0x20 ∷ 0x2d ∷ 0x0a ∷ [])
-unfolding divides euclid gcd found or-else first smallest some-below all-below present product sum-from sum path is-open path-of period-of start-of at-digits at way-by-digits way step divisor free free-class candidate before better best-below under best chosen put one-edge group split newcomer booking book-by-digits class-at book-into opened start-in start-given prune closed first-refusal line-above-63 period-out-of-range no-room earlier-checks open-refusal line-refusal refusal reply carried-out answer-unless tree-unless answer after gives-unless show-outcome turns-outcome order-of field joined kind line period filler kind-above-1 close-with-period filler-set reading-refusal call-of reading answer-read after-read order-answer order-after orders-of list-answers result length-refused last-digits decimal text-line header list-line start-word order-line order-lines book-text
+    ≡ (ascii "order kind line period result start\n"
+    ++ (ascii "1 0 1 6 0 0\n"
+    ++ (ascii "2 0 2 2 0 1\n"
+    ++ (ascii "3 0 3 3 5 -\n"
+    ++ (ascii "4 1 2 0 0 -\n"
+    ++ (ascii "5 0 3 3 5 -\n"
+    ++ (ascii "6 1 2 0 4 -\n")))))))
+unfolding divides euclid gcd found or-else first smallest some-below all-below present product sum-from sum path is-open path-of period-of start-of at-digits at way-by-digits way step divisor free free-class candidate before better best-below under best chosen put one-edge group split newcomer booking book-by-digits class-at book-into opened start-in start-given prune closed first-refusal line-above-63 period-out-of-range no-room earlier-checks open-refusal line-refusal refusal reply carried-out answer-unless tree-unless answer after gives-unless show-outcome turns-outcome order-of field joined kind line period filler kind-above-1 close-with-period filler-set reading-refusal call-of reading answer-read after-read order-answer order-after orders-of list-answers result length-refused last-digits decimal text-line ascii header list-line start-word order-line order-lines book-text
 case-i-printed = refl
 
-pub empty-list-printed :
-    book-text []
-    ≡ (0x6f ∷ 0x72 ∷ 0x64 ∷ 0x65 ∷ 0x72 ∷ 0x20 ∷ 0x6b ∷ 0x69 ∷ 0x6e ∷ 0x64 ∷ 0x20 ∷ 0x6c ∷ 0x69 ∷ 0x6e ∷ 0x65 ∷ 0x20 ∷ 0x70 ∷ 0x65 ∷ 0x72 ∷ 0x69 ∷ 0x6f ∷ 0x64 ∷ 0x20 ∷ 0x72 ∷ 0x65 ∷ 0x73 ∷ 0x75 ∷ 0x6c ∷ 0x74 ∷ 0x20 ∷ 0x73 ∷ 0x74 ∷ 0x61 ∷ 0x72 ∷ 0x74 ∷ 0x0a ∷ [])
-unfolding text-line header length-refused orders-of list-answers order-lines book-text
+pub empty-list-printed : book-text [] ≡ ascii "order kind line period result start\n"
+unfolding ascii text-line header length-refused orders-of list-answers order-lines book-text
 empty-list-printed = refl
 
-pub one-byte-printed :
-    (byte : ℕ) → book-text (byte ∷ [])
-    ≡ (0x6f ∷ 0x72 ∷ 0x64 ∷ 0x65 ∷ 0x72 ∷ 0x20 ∷ 0x6b ∷ 0x69 ∷ 0x6e ∷ 0x64 ∷ 0x20 ∷ 0x6c ∷ 0x69 ∷ 0x6e ∷ 0x65 ∷ 0x20 ∷ 0x70 ∷ 0x65 ∷ 0x72 ∷ 0x69 ∷ 0x6f ∷ 0x64 ∷ 0x20 ∷ 0x72 ∷ 0x65 ∷ 0x73 ∷ 0x75 ∷ 0x6c ∷ 0x74 ∷ 0x20 ∷ 0x73 ∷ 0x74 ∷ 0x61 ∷ 0x72 ∷ 0x74 ∷ 0x0a
-    ∷ 0x6c ∷ 0x69 ∷ 0x73 ∷ 0x74 ∷ 0x20 ∷ 0x37 ∷ 0x0a ∷ [])
-unfolding last-digits decimal text-line header list-line length-refused book-text
+pub one-byte-printed : (byte : ℕ) → book-text (byte ∷ []) ≡ ascii "order kind line period result start\nlist 7\n"
+unfolding ascii header list-line length-refused book-text
 one-byte-printed byte = refl

@@ -2,8 +2,8 @@
 -- Assumes nothing.
 use Prim.Native.Nat.{ℕ, _+_, _*_, _/_, _%_, _<_, _≤_}
 use native.Mathlib.Omega.{arith}
-use mathlib.Core.Path.{_≡_, refl, sym, _∙_, ap, ap₂}
-use mathlib.Core.List.{List, [], _∷_, _++_}
+use mathlib.Core.Path.{_≡_, _∙_, ap, ap₂}
+use mathlib.Core.List.{List, [], _∷_}
 use lib.ListN.{length, length-append}
 use Rattle.tree.specs.Calls.{Answer, booked, done, refused}
 use Rattle.orders.specs.Field.{field, joined}
@@ -11,7 +11,7 @@ use Rattle.orders.specs.Order.{kind, line, period, fields-of}
 use Rattle.orders.proofs.FieldLaws.{field-below}
 use Rattle.lists.specs.Lists.{result, start, answer-word, high-byte, low-byte}
 use Rattle.book_text.specs.BookText.{decimal, text-line, start-word, order-line}
-use Rattle.book_text.specs.Writing.{start-printed, line-printed}
+use Rattle.book_text.specs.Writing.{line-printed}
 use Rattle.book_text.proofs.Decimal.{one-digit-length, two-digits-length, four-digits-length, five-digits-length}
 use Rattle.book_text.proofs.Printable.{Printable}
 

@@ -3,7 +3,7 @@
 -- Assumes nothing.
 use Prim.Native.Nat.{ℕ, zero, suc, _<_}
 use native.Mathlib.Omega.{arith}
-use mathlib.Core.Path.{_≡_, refl, sym, _∙_, ap}
+use mathlib.Core.Path.{_≡_, refl}
 use mathlib.Core.Bool.{Bool, true, false}
 use mathlib.Core.List.{List, [], _∷_}
 use mathlib.Core.Option.{Option, none, some}
@@ -11,14 +11,14 @@ use lib.Dec.{eqb}
 use borrow.Author.Tests.{eqb-true, eqb-false}
 use Rattle.tree.specs.Tree.{Tree}
 use Rattle.tree.specs.Shape.{Legal}
-use Rattle.tree.specs.Calls.{Call, open-line, close-line, Answer, booked, done, refused, gives, refuses, gives-unless, refusal, reply, carried-out, answer-unless, tree-unless, answer, after}
+use Rattle.tree.specs.Calls.{Call, open-line, close-line, Answer, refused, gives-unless, refusal, reply, carried-out, answer-unless, tree-unless, answer, after}
 use Rattle.tree.proofs.Checks.{open-may}
 use Rattle.tree.proofs.Opening.{opened-legal}
 use Rattle.tree.proofs.Closing.{closed-legal}
 use Rattle.orders.specs.Order.{kind, line, period}
 use Rattle.orders.specs.Reading.{reading-refusal, call-of, reading}
 use Rattle.lists.specs.Lists.{answer-read, after-read, order-answer, order-after, list-answers, result, start}
-use Rattle.lists.proofs.AnswersFit.{Small, refusal-small, reading-small, Fits, order-answer-fits}
+use Rattle.lists.proofs.AnswersFit.{Small, refusal-small, reading-small, order-answer-fits}
 use Rattle.book_text.specs.BookText.{start-word}
 use Rattle.book_text.specs.Writing.{start-printed}
 use Rattle.book_text.proofs.StartWord.{start-of-opened, start-of-other-kind, start-of-refused}

@@ -1,10 +1,10 @@
 -- How long the text of `book` can be: the header has 36 bytes, and each of at most 21,845 lines at most 23.
 -- Assumes nothing.
-use Prim.Native.Nat.{ℕ, suc, _+_, _*_, _/_, _%_, _<_, _≤_}
+use Prim.Native.Nat.{ℕ, suc, _+_, _*_, _/_, _≤_}
 use native.Mathlib.Omega.{arith}
 use mathlib.Core.Path.{_≡_, refl}
 use mathlib.Core.Bool.{Bool, true, false}
-use mathlib.Core.List.{List, [], _∷_, _++_}
+use mathlib.Core.List.{List, [], _∷_}
 use lib.ListN.{length, length-append}
 use Rattle.tree.specs.Search.{if_then_else_}
 use Rattle.tree.specs.Tree.{nothing}
@@ -13,17 +13,18 @@ use Rattle.tree.specs.Calls.{Answer}
 use Rattle.lists.specs.Lists.{orders-of, list-answers, length-refused}
 use Rattle.lists.proofs.ListChecks.{fit-length}
 use Rattle.lists.proofs.OrdersInTurn.{orders-counted}
-use Rattle.book_text.specs.BookText.{last-digits, decimal, text-line, header, list-line, order-line, order-lines, book-text}
+use Rattle.book_text.specs.Ascii.{ascii}
+use Rattle.book_text.specs.BookText.{header, list-line, order-lines, book-text}
 use Rattle.book_text.specs.Writing.{longest-text}
 use Rattle.book_text.proofs.Printable.{AllPrintable, all-printable}
 use Rattle.book_text.proofs.OrderLine.{order-line-length}
 
 pub header-length : length header ≡ 36
-unfolding header text-line
+unfolding header ascii
 header-length = refl
 
 pub list-line-length : length list-line ≡ 7
-unfolding list-line text-line decimal last-digits
+unfolding list-line ascii
 list-line-length = refl
 
 order-lines-length : (number : ℕ) (ns : List ℕ) (answers : List Answer) → number + length ns ≤ 100000 → AllPrintable ns answers → length (order-lines number ns answers) ≤ 23 * length ns

@@ -14,7 +14,6 @@ use Rattle.tree.specs.declared.Plan.{Plan}
 use Rattle.tree.specs.Search.{if_then_else_}
 use Rattle.tree.specs.Tree.{Tree, nothing, path, path-of}
 use Rattle.tree.specs.Asking.{rows-11}
-use Rattle.tree.specs.Calls.{Answer}
 use Rattle.tree.specs.Record.{treeOf, recordOf, numbers, numbers-below}
 use Rattle.bridge.specs.Rows.{tree-of}
 use Rattle.bridge.proofs.CarriedLegal.{empty-recorded}

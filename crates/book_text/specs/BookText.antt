@@ -1,6 +1,7 @@
 -- The text that the program `book` prints for the bytes of its input (document 01, Orders, 7 and 8). Its bytes are ASCII.
 -- Assumes nothing.
 use Prim.Native.Nat.{ℕ, zero, suc, _+_, _/_, _%_}
+use Prim.Native.Char.{code}
 use mathlib.Core.List.{List, [], _∷_, _++_}
 use lib.Dec.{ltb}
 use lib.ListN.{length}
@@ -9,42 +10,45 @@ use Rattle.tree.specs.Tree.{nothing}
 use Rattle.tree.specs.Calls.{Answer, booked, done, refused}
 use Rattle.orders.specs.Order.{kind, line, period}
 use Rattle.lists.specs.Lists.{orders-of, list-answers, result, length-refused}
+use Rattle.book_text.specs.Ascii.{ascii}
 
 -- Words and lines
 
 -- the decimal digits of a number, the last ones where it has more than so many
 unfoldable pub last-digits : ℕ → ℕ → List ℕ
 last-digits zero n = []
-last-digits (suc k) n = if ltb n 10 then ((48 + n) ∷ []) else (last-digits k (n / 10) ++ ((48 + n % 10) ∷ []))
+last-digits (suc k) n =
+    if ltb n 10 then ((code "0" + n) ∷ []) else (last-digits k (n / 10) ++ ((code "0" + n % 10) ∷ []))
 
 -- the decimal digits of a number, without zeros in front: a number n has at most n + 1 of them
 unfoldable pub decimal : ℕ → List ℕ
 decimal n = last-digits (suc n) n
 
+-- a word, and the space after it
+abbrev pub spaced : List ℕ → List ℕ
+spaced word = word ++ (code " " ∷ [])
+
 -- words parted by one space, and a line feed
 unfoldable pub text-line : List (List ℕ) → List ℕ
-text-line [] = 0x0a ∷ []
-text-line (w ∷ []) = w ++ (0x0a ∷ [])
-text-line (w ∷ v ∷ words) = (w ++ (0x20 ∷ [])) ++ text-line (v ∷ words)
+text-line [] = code "\n" ∷ []
+text-line (w ∷ []) = w ++ (code "\n" ∷ [])
+text-line (w ∷ v ∷ words) = spaced w ++ text-line (v ∷ words)
 
 -- The lines of book
 
--- (Orders, 7) `order kind line period result start`
+-- (Orders, 7)
 unfoldable pub header : List ℕ
-header =
-    text-line
-    ((0x6f ∷ 0x72 ∷ 0x64 ∷ 0x65 ∷ 0x72 ∷ []) ∷ (0x6b ∷ 0x69 ∷ 0x6e ∷ 0x64 ∷ []) ∷ (0x6c ∷ 0x69 ∷ 0x6e ∷ 0x65 ∷ [])
-    ∷ (0x70 ∷ 0x65 ∷ 0x72 ∷ 0x69 ∷ 0x6f ∷ 0x64 ∷ []) ∷ (0x72 ∷ 0x65 ∷ 0x73 ∷ 0x75 ∷ 0x6c ∷ 0x74 ∷ []) ∷ (0x73 ∷ 0x74 ∷ 0x61 ∷ 0x72 ∷ 0x74 ∷ []) ∷ [])
+header = ascii "order kind line period result start\n"
 
--- (Orders, 8) `list 7`
+-- (Orders, 8)
 unfoldable pub list-line : List ℕ
-list-line = text-line ((0x6c ∷ 0x69 ∷ 0x73 ∷ 0x74 ∷ []) ∷ decimal 7 ∷ [])
+list-line = ascii "list 7\n"
 
 -- (Orders, 7) the start where a line was opened, or `-`
 unfoldable pub start-word : Answer → List ℕ
 start-word (booked s) = decimal s
-start-word done = 0x2d ∷ []
-start-word (refused n) = 0x2d ∷ []
+start-word done = code "-" ∷ []
+start-word (refused n) = code "-" ∷ []
 
 -- (Orders, 7) An order's number, its kind, line and period as the bits say, and what it answered.
 unfoldable pub order-line : ℕ → ℕ → Answer → List ℕ

@@ -1,6 +1,7 @@
 -- What the functions of this crate promise of the lent text bytes.
 -- Assumes nothing.
 use Prim.Native.Nat.{ℕ, _+_, _*_, _/_, _%_, _≤_}
+use Prim.Native.Char.{code}
 use mathlib.Core.Path.{_≡_}
 use mathlib.Core.Bool.{_&&_}
 use mathlib.Core.List.{List, [], _∷_, _++_}
@@ -27,7 +28,7 @@ pub record Appended (before : List ℕ) (at : ℕ) (bytes after : List ℕ) (nex
 
 -- the last word of a line, as the kind, the result and the start of the two answer bytes decide it
 unfoldable pub start-printed : ℕ → ℕ → ℕ → List ℕ
-start-printed kind result start = if eqb kind 0 && eqb result 0 then decimal start else (0x2d ∷ [])
+start-printed kind result start = if eqb kind 0 && eqb result 0 then decimal start else (code "-" ∷ [])
 
 -- the line of an order, from the code's fields
 unfoldable pub line-printed : ℕ → OrderFields → ℕ → ℕ → List ℕ

@@ -1,13 +1,13 @@
 // The text of the program `book` (document 01, section Orders, last paragraph), written into lent bytes: a header, then
 // a line for each order, or `list 7` where the list is refused.
 ghost use mathlib.Core.Path.{_≡_};
-ghost use mathlib.Core.List.{[], _∷_, _++_};
+ghost use mathlib.Core.List.{[], _∷_};
 ghost use Prim.Native.Nat.{_+_, _*_, _/_, _%_};
 ghost use lib.ListN.{length};
 ghost use Rattle.tree.specs.Tree.{nothing};
 ghost use Rattle.orders.specs.Order.{order-of, fields-of};
 ghost use Rattle.lists.specs.Lists.{orders-of, list-answers};
-ghost use Rattle.book_text.specs.BookText.{decimal, order-lines};
+ghost use Rattle.book_text.specs.BookText.{decimal, spaced, order-lines};
 ghost use Rattle.book_text.specs.Writing.{Room, Appended, start-printed, line-printed, Answered, BookWritten};
 use lists::ListAnswer;
 use orders::Bytes;
@@ -45,16 +45,16 @@ fn append_decimal(text: &mut [u8], at: usize, number: u64) -> usize
     ensures { λ r. ⌜ Appended (now (text .entry)) at (decimal number) (now (text .exit)) r ⌝ }
 {
     if number < 10 {
-        return append_byte(text, at, 48 + number as u8);
+        return append_byte(text, at, b'0' + number as u8);
     }
     let last = append_decimal(text, at, number / 10);
-    append_byte(text, last, 48 + (number % 10) as u8)
+    append_byte(text, last, b'0' + (number % 10) as u8)
 }
 
 // Writes a number and a space.
 fn append_spaced(text: &mut [u8], at: usize, number: u64) -> usize
-    requires { ⌜ Room (now text) at (decimal number ++ (0x20 ∷ [])) ⌝ }
-    ensures { λ r. ⌜ Appended (now (text .entry)) at (decimal number ++ (0x20 ∷ [])) (now (text .exit)) r ⌝ }
+    requires { ⌜ Room (now text) at (spaced (decimal number)) ⌝ }
+    ensures { λ r. ⌜ Appended (now (text .entry)) at (spaced (decimal number)) (now (text .exit)) r ⌝ }
 {
     let space = append_decimal(text, at, number);
     append_byte(text, space, b' ')

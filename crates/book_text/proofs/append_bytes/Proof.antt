@@ -9,8 +9,6 @@ use Rattle.book_text.specs.Writing.{Appended}
 use Rattle.book_text.proofs.Appending.{appended-nothing, appended-more, appended-all}
 use Rattle.book_text.proofs.append_bytes.Statement.{statement}
 use Rattle.book_text.proofs.append_bytes.Tie as tie
-use Rattle.book_text.proofs.append_bytes.Reads as reads
-use Rattle.book_text.proofs.append_bytes.Lts as lts
 
 abbrev Inv-loop : tie.InvT-loop
 Inv-loop text₀ at bytes k₀ text k = (k ≤ length bytes) × (length text ≡ length text₀) × Appended text₀ at (take k bytes) text (at + k)

@@ -3,14 +3,10 @@
 -- Assumes nothing.
 use Prim.Native.Nat.{_-_}
 use mathlib.Core.Path.{refl}
-use native.Mathlib.Omega.{arith}
 use borrow.Author.Needs.{needs}
 use Rattle.book_text.proofs.OrdersPrinted.{Printing, printing-none, same-length as same-text-length, next-room, printing-more, printing-all}
 use Rattle.book_text.proofs.append_orders.Statement.{statement}
 use Rattle.book_text.proofs.append_orders.Tie as tie
-use Rattle.book_text.proofs.append_orders.Reads as reads
-use Rattle.book_text.proofs.append_orders.Lts as lts
-use Rattle.book_text.proofs.append_order.Reads as append-order-reads
 
 abbrev Inv-loop : tie.InvT-loop
 Inv-loop text₀ at orders answers count end₀ k₀ text end k = Printing text₀ at orders answers count text end k

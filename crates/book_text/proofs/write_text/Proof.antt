@@ -4,7 +4,8 @@ use native.Mathlib.Omega.{arith}
 use mathlib.Core.Path.{ap}
 use borrow.Author.Needs.{needs}
 use Rattle.lists.specs.Runs.{refusal-in}
-use Rattle.book_text.specs.BookText.{last-digits, decimal, text-line, header, list-line}
+use Rattle.book_text.specs.Ascii.{ascii}
+use Rattle.book_text.specs.BookText.{header, list-line}
 use Rattle.book_text.proofs.WholeText.{empty-plan, ran-refused, ran-done, ran-answered, no-room, refused-written, orders-written}
 use Rattle.book_text.proofs.write_text.Statement.{statement}
 use Rattle.book_text.proofs.write_text.Tie as tie
@@ -58,7 +59,7 @@ same-length : tie.Need-same-length
 same-length c = search needs
 
 returns-2 : tie.Need-returns-2
-unfolding refusal-in header text-line
+unfolding refusal-in header ascii
 returns-2 c =
     let lines = c .before .before in
     let told = lines .before .before .before in
@@ -73,7 +74,7 @@ same-length-2 : tie.Need-same-length-2
 same-length-2 c = search needs
 
 returns-3 : tie.Need-returns-3
-unfolding refusal-in header list-line text-line decimal last-digits
+unfolding refusal-in header list-line ascii
 returns-3 c =
     let line = c .before .before in
     let told = line .before .before .before in
