@@ -4,7 +4,7 @@ use Prim.Native.Nat.{ℕ, suc, _+_, _-_, _/_, _%_, _<_}
 use native.Mathlib.Omega.{arith}
 use native.Mathlib.Numerals.{add-one}
 use mathlib.Core.Path.{_≡_, sym, _∙_, ap}
-use mathlib.Core.Bool.{true, false}
+use mathlib.Core.Bool.{true, false, and-eq-true-iff}
 use mathlib.Core.List.{List}
 use mathlib.Core.Option.{Option, none, some}
 use lib.Dec.{eqb}
@@ -14,7 +14,6 @@ use Rattle.tree.specs.declared.Row.{Row}
 use Rattle.tree.specs.Record.{row-at, path-at}
 use Rattle.paths.specs.Rules.{Family, row-of, same-node, line-under, walk-on-paths, owner-on-paths}
 use Rattle.tree.proofs.Searching.{smallest-some}
-use Rattle.paths.proofs.AllBelow.{both-true}
 use Rattle.paths.proofs.PathRows.{row-in-path, weight-in-path}
 use Rattle.paths.proofs.SameNode.{same-node-goes-on}
 use Rattle.paths.proofs.RowLaws.{some-rows}
@@ -27,7 +26,7 @@ module _ (family : Family) (ps : List Row) (l e N : ℕ) (under : line-under fam
   unfolding line-under
   line-under-within =
       let found = smallest-some 64 _ N under in
-      (found .in-range, same-node-goes-on l ps (family N) (both-true (same-node l ps (family N)) (eqb (row-of l (family N) .edge) e) (found .passes) .0) .1)
+      (found .in-range, same-node-goes-on l ps (family N) (and-eq-true-iff (same-node l ps (family N)) (eqb (row-of l (family N) .edge) e) .0 (found .passes) .0) .1)
 
   -- where the path does not end there, it goes through the next node too
   pub through-next : eqb (length (family N)) (suc l) ≡ false → l + 1 < length (family N)

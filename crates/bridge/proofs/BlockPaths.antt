@@ -3,7 +3,7 @@
 use Prim.Native.Nat.{ℕ, _<_}
 use native.Mathlib.Omega.{arith}
 use native.Mathlib.Decide.{decLt}
-use mathlib.Core.Path.{_≡_, refl, sym, _∙_}
+use mathlib.Core.Path.{_≡_, sym, _∙_}
 use mathlib.Core.Bool.{true, _||_}
 use mathlib.Core.List.{List}
 use lib.Dec.{ltb}
@@ -16,13 +16,12 @@ use Rattle.paths.specs.Rules.{row-of}
 use Rattle.tree.proofs.Searching.{all-below-each}
 use Rattle.paths.proofs.RowLaws.{row-in, numbers-by-rows, rows-11-length, rows-11-row, row-beyond, line-row}
 use Rattle.paths.proofs.Blocks.{block, block-length, row-at-in-block, row-at-of-block}
-use Rattle.bridge.proofs.WrittenPaths.{Written, path-from-of-rows}
+use Rattle.bridge.proofs.WrittenPaths.{Written, path-of-rows}
 
 -- A path is read back from its block
 
 pub path-of-block : (rows : List ℕ) (L : ℕ) (rs : List Row) → Written rs → block rows L ≡ numbers (rows-11 rs) → path-at rows L ≡ rs
-unfolding path-at
-path-of-block rows L rs written here = path-from-of-rows rows L rs written (row-at-of-block rows L rs here) 0 11 refl
+path-of-block rows L rs written here = path-of-rows rows L rs written (row-at-of-block rows L rs here)
 
 in-path-or-unused : (rs : List Row) (k : ℕ) → (ltb k (length rs) || unused (row-of k rs)) ≡ true
 unfolding unused

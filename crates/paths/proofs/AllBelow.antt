@@ -5,7 +5,7 @@ use native.Mathlib.Omega.{arith}
 use native.Mathlib.Nat.{lt-of-lt-of-le}
 use mathlib.Core.Path.{_≡_, refl, ap}
 use mathlib.Core.Logic.{_⊎_, inl, inr}
-use mathlib.Core.Bool.{Bool, true, false, not, _&&_}
+use mathlib.Core.Bool.{Bool, true, false, not, _&&_, and-eq-true-iff}
 use borrow.Author.Tests.{not-true, not-false}
 use borrow.Author.Count.{below-none, below-more}
 use Rattle.tree.specs.Search.{all-below}
@@ -21,12 +21,7 @@ all-below-faulty n test h =
     let x = some-below-true n (λ j. not (test j)) (not-false _ h) in
     (x .0, x .1, not-true _ (x .2))
 
-pub both-true : (a b : Bool) → (a && b) ≡ true → (a ≡ true) × (b ≡ true)
-both-true true b h = (refl, h)
-both-true false true h = (h, refl)
-both-true false false h = (h, h)
-
-pub one-false : (a b : Bool) → (a && b) ≡ false → (a ≡ false) ⊎ (b ≡ false)
+one-false : (a b : Bool) → (a && b) ≡ false → (a ≡ false) ⊎ (b ≡ false)
 one-false true b h = inr h
 one-false false b h = inl refl
 
@@ -44,8 +39,8 @@ all-below-and n f g = go (all-below n (λ i. f i && g i)) refl
 
     go : (b : Bool) → all-below n (λ i. f i && g i) ≡ b → (all-below n f && all-below n g) ≡ all-below n (λ i. f i && g i)
     go true e =
-        let first = all-below-each n f (λ i below. both-true (f i) (g i) (all-below-at n _ e i below) .0) in
-        let second = all-below-each n g (λ i below. both-true (f i) (g i) (all-below-at n _ e i below) .1) in
+        let first = all-below-each n f (λ i below. and-eq-true-iff (f i) (g i) .0 (all-below-at n _ e i below) .0) in
+        let second = all-below-each n g (λ i below. and-eq-true-iff (f i) (g i) .0 (all-below-at n _ e i below) .1) in
         rw (first, second, e)
     go false e =
         let x = all-below-faulty n (λ i. f i && g i) e in
