@@ -3,7 +3,7 @@
 use Prim.Native.Nat.{ℕ, suc, _+_, _-_, _/_, _%_, _<_}
 use native.Mathlib.Omega.{arith}
 use native.Mathlib.Numerals.{add-one}
-use mathlib.Core.Path.{_≡_, sym, _∙_, ap}
+use mathlib.Core.Path.{_≡_}
 use mathlib.Core.Bool.{true, false, and-eq-true-iff}
 use mathlib.Core.List.{List}
 use mathlib.Core.Option.{Option, none, some}
@@ -14,7 +14,7 @@ use Rattle.tree.specs.declared.Row.{Row}
 use Rattle.tree.specs.Record.{row-at, path-at}
 use Rattle.paths.specs.Rules.{Family, row-of, same-node, line-under, walk-on-paths, owner-on-paths}
 use Rattle.tree.proofs.Searching.{smallest-some}
-use Rattle.paths.proofs.PathRows.{row-in-path, weight-in-path}
+use Rattle.paths.proofs.PathRows.{weight-in-path, weight-read}
 use Rattle.paths.proofs.SameNode.{same-node-goes-on}
 use Rattle.paths.proofs.RowLaws.{some-rows}
 use Rattle.asking.specs.Answers.{first-open}
@@ -46,11 +46,8 @@ module _ (rows : List ℕ) (left M l n : ℕ) (goes-on : left ≡ 0 → ⊥) (be
   one-node : left ≡ suc (left - 1)
   one-node = omega (arith, goes-on)
 
-  weight-of-node : row-of l (path-at rows M) .weight ≡ w
-  weight-of-node = ap (λ (r : Row). r .weight) (row-in-path rows M below) ∙ sym read
-
   selected : {o : Option ℕ} → line-under (path-at rows) (path-at rows M) l (n % w) ≡ o → line-under (path-at rows) (path-at rows M) l (n % row-of l (path-at rows M) .weight) ≡ o
-  selected under = rw weight-of-node under
+  selected under = rw (weight-read rows M below read) under
 
   pub walk-idle : line-under (path-at rows) (path-at rows M) l (n % w) ≡ none → walk-on-paths (path-at rows) left M l n ≡ none
   unfolding walk-on-paths
@@ -64,7 +61,7 @@ module _ (rows : List ℕ) (left M l n : ℕ) (goes-on : left ≡ 0 → ⊥) (be
 
     pub walk-to-node : eqb (length (path-at rows N)) (suc l) ≡ false → walk-on-paths (path-at rows) left M l n ≡ walk-on-paths (path-at rows) (left - 1) N (l + 1) (n / w)
     unfolding walk-on-paths
-    walk-to-node ends = rw (one-node, selected under, walk-on-paths, ends, weight-of-node, add-one l, ← one-node)
+    walk-to-node ends = rw (one-node, selected under, walk-on-paths, ends, weight-read rows M below read, add-one l, ← one-node)
 
 -- From the root
 

@@ -86,8 +86,6 @@ module _ (rows : List ℕ) (ps : List Row) (l d : ℕ) (long : length rows ≡ 1
           block-set-line-other (split-lines rows ps l d n) n M (split-path l d (path-at rows n)) (omega arith) (λ same. omega arith) (split-lines-length n (omega arith)) ∙ h
       by-test false h earlier = h
 
--- An open line's path, in the record and in the tree
-
 -- The booking
 
 module _ (plan : Plan) (L p : ℕ) (s : Spot) (is-legal : legal (plan .rows) ≡ true) (long : length (plan .rows) ≡ 1408)

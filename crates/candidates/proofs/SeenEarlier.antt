@@ -18,7 +18,8 @@ use Rattle.paths.specs.Rules.{Family, row-of, same-node, class-taken, class-on-
 use Rattle.tree.proofs.Searching.{some-below-true, some-below-at}
 use Rattle.paths.proofs.LegalLines.{legal-together}
 use Rattle.candidates.specs.Answers.{seen-earlier, Reached}
-use Rattle.paths.proofs.NoneBelow.{NoneBelow, none-below-more, none-passes}
+use Rattle.paths.proofs.AllBelow.{so-far-more}
+use Rattle.paths.proofs.NoneBelow.{NoneBelow, none-passes}
 use Rattle.paths.proofs.SameNode.{same-node-goes-on, same-node-either}
 use Rattle.candidates.proofs.NothingBetter.{NoBetter, no-better-place, place-no-better, path-keeps, lines-searched}
 
@@ -104,7 +105,7 @@ Unseen rows L l k = NoneBelow L (λ M. same-node l (path-at rows M) (path-at row
 -- b answered whether line k does
 module _ (rows : List ℕ) (L l : ℕ) {k : ℕ} (unseen : Unseen rows L l k) (below : k < L) {b : Bool} (answered : b ≡ same-node l (path-at rows k) (path-at rows L)) where
   pub unseen-more : b ≡ false → Unseen rows L l (k + 1)
-  unseen-more apart = none-below-more unseen below (sym answered ∙ apart)
+  unseen-more apart = so-far-more unseen below (sym answered ∙ apart)
 
   pub seen-there : b ≡ true → seen-earlier (path-at rows) L l ≡ true
   unfolding seen-earlier

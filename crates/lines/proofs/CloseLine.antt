@@ -2,31 +2,20 @@
 -- Assumes nothing.
 use Prim.Native.Nat.{ℕ, _<_, _≤_}
 use native.Mathlib.Omega.{arith}
-use mathlib.Core.Path.{_≡_, refl, _∙_, ap}
-use mathlib.Core.Bool.{true, false, not}
-use mathlib.Core.List.{List, [], _∷_}
+use mathlib.Core.Path.{_≡_, _∙_, ap}
+use mathlib.Core.Bool.{true, not}
+use mathlib.Core.List.{List, []}
 use lib.ListN.{length}
-use Rattle.tree.specs.declared.Row.{Row}
 use Rattle.tree.specs.Calls.{close-line, refusal, refused, done}
-use Rattle.tree.specs.Record.{path-at, no-rows, legal}
+use Rattle.tree.specs.Record.{path-at, legal}
 use Rattle.paths.specs.Rules.{set-line}
 use Rattle.tree.proofs.Checks.{line-refused-1, line-refused-4}
 use Rattle.paths.specs.declared.Found.the-variants.{At, Nothing}
 use Rattle.paths.specs.Answers.{lookup}
+use Rattle.paths.proofs.PathLength.{lookup-nothing, lookup-at}
 use Rattle.bridge.specs.Rows.{tree-of, CarriedOut}
 use Rattle.bridge.proofs.TreeOfRecord.{open-on-record}
 use Rattle.bridge.proofs.CallsOnRecords.{refused-on, close-on}
-
--- what the lookup says of the path
-pub lookup-nothing : (rs : List Row) → lookup rs ≡ Nothing → no-rows rs ≡ true
-unfolding lookup no-rows
-lookup-nothing [] h = refl
-lookup-nothing (r ∷ rs) h = let z : _≡_ {A = ℕ} 0 1 = cc in absurd (omega arith)
-
-pub lookup-at : (rs : List Row) (n : ℕ) → lookup rs ≡ At n → no-rows rs ≡ false
-unfolding lookup no-rows
-lookup-at [] n h = let z : _≡_ {A = ℕ} 0 1 = cc in absurd (omega arith)
-lookup-at (r ∷ rs) n h = refl
 
 pub close-above : (rows : List ℕ) (L : ℕ) → 63 < L → CarriedOut (close-line L) rows rows (refused 1)
 unfolding refusal

@@ -3,7 +3,7 @@
 use Prim.Native.Nat.{ℕ, zero, suc, _+_, _*_, _≤_, _<_}
 use native.Mathlib.Omega.{arith}
 use native.Mathlib.Decide.{decLt}
-use mathlib.Core.Path.{_≡_, refl, sym, ap₂, _∙_}
+use mathlib.Core.Path.{_≡_, refl, sym, ap, ap₂, _∙_}
 use mathlib.Core.Bool.{true, false, true≢false, false≢true, and-eq-true-iff}
 use mathlib.Core.List.{List, [], _∷_, _++_}
 use lib.Dec.{eqb}
@@ -56,17 +56,21 @@ numbers-length [] = refl
 numbers-length (r ∷ rs) = omega (arith, numbers-length rs)
 
 -- the rows say all the numbers
-pub numbers-by-rows : (xs : List ℕ) (qs : List Row) → length xs ≡ 2 * length qs → ((k : ℕ) → k < length qs → row-in xs k ≡ row-of k qs) → xs ≡ numbers qs
-unfolding numbers row-of row-in
-numbers-by-rows [] [] long same = refl
-numbers-by-rows [] (q ∷ qs) long same = absurd (omega arith)
-numbers-by-rows (a ∷ []) [] long same = absurd (omega arith)
-numbers-by-rows (a ∷ []) (q ∷ qs) long same = absurd (omega arith)
-numbers-by-rows (a ∷ b ∷ xs) [] long same = absurd (omega arith)
-numbers-by-rows (a ∷ b ∷ xs) (q ∷ qs) long same =
+pub same-by-rows : (n : ℕ) (xs ys : List ℕ) → length xs ≡ 2 * n → length ys ≡ 2 * n → ((k : ℕ) → k < n → row-in xs k ≡ row-in ys k) → xs ≡ ys
+unfolding row-in
+same-by-rows zero [] [] long-xs long-ys same = refl
+same-by-rows (suc n) (a ∷ b ∷ xs) (c ∷ d ∷ ys) long-xs long-ys same =
     let here = same 0 (omega arith) in
-    let rest = numbers-by-rows xs qs (omega arith) (λ k below. sym (row-in-later a b xs k) ∙ same (suc k) (omega arith)) in
+    let weights : a ≡ c = ap (λ (r : Row). r .weight) here in
+    let edges : b ≡ d = ap (λ (r : Row). r .edge) here in
+    let rest = same-by-rows n xs ys (omega arith) (omega arith) (λ k below. sym (row-in-later a b xs k) ∙ same (suc k) (omega arith) ∙ row-in-later c d ys k) in
     cc
+same-by-rows zero (a ∷ xs) ys long-xs long-ys same = absurd (omega arith)
+same-by-rows zero [] (c ∷ ys) long-xs long-ys same = absurd (omega arith)
+same-by-rows (suc n) [] ys long-xs long-ys same = absurd (omega arith)
+same-by-rows (suc n) (a ∷ []) ys long-xs long-ys same = absurd (omega arith)
+same-by-rows (suc n) (a ∷ b ∷ xs) [] long-xs long-ys same = absurd (omega arith)
+same-by-rows (suc n) (a ∷ b ∷ xs) (c ∷ []) long-xs long-ys same = absurd (omega arith)
 
 -- The 11 rows of a path
 

@@ -9,7 +9,7 @@ use lib.Dec.{ltb}
 use lib.ListN.{length}
 use borrow.Author.Tests.{lt-ltb, le-ltb, eq-eqb, ne-eqb}
 use Rattle.tree.specs.Record.{row-at, path-at, unused, rest-unused}
-use Rattle.paths.proofs.AllBelow.{Tested, tested-more, tested-fault, tested-all}
+use Rattle.paths.proofs.AllBelow.{so-far-more, Tested, tested-fault, tested-all}
 use Rattle.paths.proofs.PathRest.{path-length-at-most-11}
 
 -- row k is in line L's path, or is not used
@@ -26,7 +26,7 @@ unused-start rows L {k} e = record {
   past-path = omega arith;
   tested = record {
     within = omega (arith, path-length-at-most-11 rows L);
-    passed = λ i below. let h : i < length (path-at rows L) = omega arith in rw (lt-ltb _ _ h);
+    gave = λ i below. let h : i < length (path-at rows L) = omega arith in rw (lt-ltb _ _ h);
   };
 }
 
@@ -54,5 +54,5 @@ module _ {rows : List ℕ} {L k : ℕ} (unused-to : Unused rows L k) where
       unfolding unused
       unused-more zero-edge = record {
         past-path = omega (arith, unused-to .past-path);
-        tested = tested-more (unused-to .tested) below (rw (not-in-path, eq-eqb _ _ (sym read ∙ zero-weight), eq-eqb _ _ (sym read-edge ∙ zero-edge)));
+        tested = so-far-more (unused-to .tested) below (rw (not-in-path, eq-eqb _ _ (sym read ∙ zero-weight), eq-eqb _ _ (sym read-edge ∙ zero-edge)));
       }
