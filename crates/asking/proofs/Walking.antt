@@ -3,8 +3,8 @@
 use Prim.Native.Nat.{ℕ, suc, _+_, _-_, _/_, _%_, _<_}
 use native.Mathlib.Omega.{arith}
 use native.Mathlib.Numerals.{add-one}
-use mathlib.Core.Path.{_≡_, sym, _∙_, ap}
-use mathlib.Core.Bool.{true, false}
+use mathlib.Core.Path.{_≡_}
+use mathlib.Core.Bool.{true, false, and-eq-true-iff}
 use mathlib.Core.List.{List}
 use mathlib.Core.Option.{Option, none, some}
 use lib.Dec.{eqb}
@@ -14,8 +14,7 @@ use Rattle.tree.specs.declared.Row.{Row}
 use Rattle.tree.specs.Record.{row-at, path-at}
 use Rattle.paths.specs.Rules.{Family, row-of, same-node, line-under, walk-on-paths, owner-on-paths}
 use Rattle.tree.proofs.Searching.{smallest-some}
-use Rattle.paths.proofs.AllBelow.{both-true}
-use Rattle.paths.proofs.PathRows.{row-in-path, weight-in-path}
+use Rattle.paths.proofs.PathRows.{weight-in-path, weight-read}
 use Rattle.paths.proofs.SameNode.{same-node-goes-on}
 use Rattle.paths.proofs.RowLaws.{some-rows}
 use Rattle.asking.specs.Answers.{first-open}
@@ -27,7 +26,7 @@ module _ (family : Family) (ps : List Row) (l e N : ℕ) (under : line-under fam
   unfolding line-under
   line-under-within =
       let found = smallest-some 64 _ N under in
-      (found .in-range, same-node-goes-on l ps (family N) (both-true (same-node l ps (family N)) (eqb (row-of l (family N) .edge) e) (found .passes) .0) .1)
+      (found .in-range, same-node-goes-on l ps (family N) (and-eq-true-iff (same-node l ps (family N)) (eqb (row-of l (family N) .edge) e) .0 (found .passes) .0) .1)
 
   -- where the path does not end there, it goes through the next node too
   pub through-next : eqb (length (family N)) (suc l) ≡ false → l + 1 < length (family N)
@@ -47,11 +46,8 @@ module _ (rows : List ℕ) (left M l n : ℕ) (goes-on : left ≡ 0 → ⊥) (be
   one-node : left ≡ suc (left - 1)
   one-node = omega (arith, goes-on)
 
-  weight-of-node : row-of l (path-at rows M) .weight ≡ w
-  weight-of-node = ap (λ (r : Row). r .weight) (row-in-path rows M below) ∙ sym read
-
   selected : {o : Option ℕ} → line-under (path-at rows) (path-at rows M) l (n % w) ≡ o → line-under (path-at rows) (path-at rows M) l (n % row-of l (path-at rows M) .weight) ≡ o
-  selected under = rw weight-of-node under
+  selected under = rw (weight-read rows M below read) under
 
   pub walk-idle : line-under (path-at rows) (path-at rows M) l (n % w) ≡ none → walk-on-paths (path-at rows) left M l n ≡ none
   unfolding walk-on-paths
@@ -65,7 +61,7 @@ module _ (rows : List ℕ) (left M l n : ℕ) (goes-on : left ≡ 0 → ⊥) (be
 
     pub walk-to-node : eqb (length (path-at rows N)) (suc l) ≡ false → walk-on-paths (path-at rows) left M l n ≡ walk-on-paths (path-at rows) (left - 1) N (l + 1) (n / w)
     unfolding walk-on-paths
-    walk-to-node ends = rw (one-node, selected under, walk-on-paths, ends, weight-of-node, add-one l, ← one-node)
+    walk-to-node ends = rw (one-node, selected under, walk-on-paths, ends, weight-read rows M below read, add-one l, ← one-node)
 
 -- From the root
 

@@ -1,36 +1,20 @@
 -- A record by its rows: two records whose rows are equal are equal, and what writing one row changes.
 -- Assumes nothing.
-use Prim.Native.Nat.{ℕ, _+_, _*_, _/_, _%_, _<_}
+use Prim.Native.Nat.{ℕ, _+_, _*_, _<_}
 use native.Mathlib.Omega.{arith}
-use native.Mathlib.Decide.{ℕ-discrete}
-use mathlib.Core.Path.{_≡_, sym, _∙_, ap, ap₂}
+use mathlib.Core.Path.{_≡_, _∙_, ap₂}
 use mathlib.Core.List.{List}
 use lib.ListN.{length, getD, set, length-set}
-use lib.Seq.{ext-getD, getD-set-same, getD-set-other}
+use lib.Seq.{getD-set-same, getD-set-other}
 use Rattle.tree.specs.declared.Row.{Row}
 use Rattle.tree.specs.Tree.{row}
 use Rattle.tree.specs.Record.{row-at}
+use Rattle.paths.proofs.Blocks.{block-by-rows, rows-by-blocks}
 use Rattle.booking.specs.Writing.{set-row}
 
--- every number of a record is the weight or the edge of a row
-module _ (a b : List ℕ) (same : (L k : ℕ) → L < 64 → k < 11 → row-at a L k ≡ row-at b L k) where
-  same-number : (i : ℕ) → i < 1408 → getD a i 0 ≡ getD b i 0
-  unfolding row-at
-  same-number i below = go (ℕ-discrete (i % 2) 0)
-    where
-      one-row : row-at a (i / 22) (i % 22 / 2) ≡ row-at b (i / 22) (i % 22 / 2)
-      one-row = same (i / 22) (i % 22 / 2) (omega arith) (omega arith)
-
-      go : Dec (i % 2 ≡ 0) → getD a i 0 ≡ getD b i 0
-      go (yes even) =
-          let place : i ≡ 22 * (i / 22) + 2 * (i % 22 / 2) = omega arith in
-          rw place (ap (λ (r : Row). r .weight) one-row)
-      go (no odd) =
-          let place : i ≡ 22 * (i / 22) + 2 * (i % 22 / 2) + 1 = omega arith in
-          rw place (ap (λ (r : Row). r .edge) one-row)
-
-  pub same-record : length a ≡ 1408 → length b ≡ 1408 → a ≡ b
-  same-record a-size b-size = ext-getD 0 a b (a-size ∙ sym b-size) (λ i below. same-number i (omega arith))
+pub same-record : (a b : List ℕ) → ((L k : ℕ) → L < 64 → k < 11 → row-at a L k ≡ row-at b L k) → length a ≡ 1408 → length b ≡ 1408 → a ≡ b
+same-record a b same a-size b-size =
+    rows-by-blocks a b a-size b-size (λ L below. block-by-rows a b L below a-size b-size (λ k within. same L k below within))
 
 module _ (rows : List ℕ) (L k : ℕ) (r : Row) where
   pub set-row-size : length (set-row rows L k r) ≡ length rows

@@ -7,7 +7,7 @@ use native.Mathlib.Decide.{ℕ-discrete}
 use native.Mathlib.Numerals.{add-one}
 use mathlib.Core.Path.{_≡_, refl, sym, _∙_, ap}
 use mathlib.Core.Bool.{Bool, true, false}
-use mathlib.Core.List.{List, [], _∷_}
+use mathlib.Core.List.{List}
 use lib.ListN.{length}
 use Rattle.tree.specs.declared.Row.{Row}
 use Rattle.tree.specs.Search.{if_then_else_}
@@ -15,21 +15,12 @@ use Rattle.tree.specs.Record.{row-at, path-at}
 use Rattle.paths.specs.Rules.{row-of, same-node, set-line, split-path, split-lines}
 use Rattle.paths.proofs.PathRest.{path-length-at-most-11}
 use Rattle.paths.proofs.PathRows.{row-in-path, weight-in-path}
-use Rattle.paths.proofs.SameNode.{same-node-goes-on}
+use Rattle.paths.proofs.SameNode.{same-node-goes-on, same-node-by-edges, same-node-either}
 use Rattle.paths.proofs.Blocks.{set-line-length}
 use Rattle.booking.specs.Writing.{SplittableOnLine, Splittable}
 use Rattle.booking.proofs.SetLine.{set-line-row, set-line-other}
 use Rattle.booking.proofs.PathRows.{path-goes-on, path-same, rest-unused-same}
 use Rattle.booking.proofs.SplitPath.{split-row-above, split-row-at}
-
--- the node hangs on the edges above it alone
-same-node-by-edges : (l : ℕ) (ps os : List Row) → l < length ps → l < length os → ((k : ℕ) → k < l → row-of k ps .edge ≡ row-of k os .edge) → (qs : List Row) → same-node l ps qs ≡ same-node l os qs
-unfolding same-node row-of
-same-node-by-edges l [] os h t same qs = absurd (omega arith)
-same-node-by-edges l (p ∷ ps) [] h t same qs = absurd (omega arith)
-same-node-by-edges l (p ∷ ps) (o ∷ os) h t same [] = refl
-same-node-by-edges zero (p ∷ ps) (o ∷ os) h t same (q ∷ qs) = refl
-same-node-by-edges (suc l) (p ∷ ps) (o ∷ os) h t same (q ∷ qs) = rw (same 0 (omega arith), same-node-by-edges l ps os (omega arith) (omega arith) (λ k below. same (suc k) (omega arith)) qs)
 
 -- a split of a line leaves its way to the node as it was
 module _ (rows : List ℕ) (size : length rows ≡ 1408) (L l d : ℕ) (below : L < 64) (above-0 : 0 < d) (on-path : l < length (path-at rows L)) (new : List ℕ) (split : new ≡ set-line rows L (split-path l d (path-at rows L))) where
@@ -87,8 +78,9 @@ module _ {start rows : List ℕ} {L l d n : ℕ} (split : SplitBelow start rows 
     -- what the test says of the line at the start
     test-kept : through ≡ same-node l (path-at start L) (path-at start n)
     test-kept =
+        let one-node = same-node-by-edges l (path-at rows L) (path-at start L) (split .goes-on) (split .splittable .on-path) (λ k h. ap (λ (r : Row). r .edge) (split .way-kept k h)) in
         read
-        ∙ same-node-by-edges l (path-at rows L) (path-at start L) (split .goes-on) (split .splittable .on-path) (λ k h. ap (λ (r : Row). r .edge) (split .way-kept k h)) (path-at rows n)
+        ∙ same-node-either l (path-at rows L) (path-at start L) one-node (path-at rows n)
         ∙ ap (same-node l (path-at start L)) path-kept
 
     -- a line that goes by another way is passed

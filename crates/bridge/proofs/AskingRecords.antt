@@ -7,7 +7,7 @@ use mathlib.Core.Bool.{true, false, not}
 use mathlib.Core.List.{List}
 use mathlib.Core.Option.{none, some}
 use Rattle.tree.specs.Search.{found}
-use Rattle.tree.specs.Tree.{Tree, nothing, product, sum, path, is-open, path-of, period-of, start-of}
+use Rattle.tree.specs.Tree.{Tree, nothing, product, sum, path, is-open, period-of, start-of}
 use Rattle.tree.specs.Asking.{owner, rows-11, shown, turns}
 use Rattle.tree.specs.Refusals.{line-refusal}
 use Rattle.tree.specs.Calls.{gives, refuses, gives-unless, show-outcome, turns-outcome}
@@ -15,7 +15,7 @@ use Rattle.tree.specs.Record.{path-at, no-rows, legal}
 use Rattle.paths.specs.Rules.{owner-on-paths}
 use Rattle.tree.proofs.Checks.{line-refused-1, line-refused-4, close-allowed}
 use Rattle.bridge.specs.Rows.{tree-of}
-use Rattle.bridge.proofs.TreeOfRecord.{treeOf-illegal, treeOf-legal, treeOf-open, treeOf-paths}
+use Rattle.bridge.proofs.TreeOfRecord.{treeOf-illegal, legal-on-record, paths-on-record, open-on-record}
 use Rattle.bridge.proofs.WalkOnPaths.{owner-is}
 
 -- A call that asks and is refused
@@ -60,33 +60,23 @@ module _ (rows : List ℕ) where
 
   module _ (is-legal : legal rows ≡ true) where
     pub owner-on-record : (n : ℕ) → owner-on-paths (path-at rows) n ≡ owner n (tree-of rows)
-    unfolding tree-of
-    owner-on-record n =
-        owner-is (tree-of rows) (treeOf-legal (record { rows = rows })) (path-at rows) (treeOf-paths (record { rows = rows }) is-legal) n
-
-    path-on-record : (L : ℕ) → L < 64 → path-at rows L ≡ path-of L (tree-of rows)
-    unfolding tree-of
-    path-on-record = treeOf-paths (record { rows = rows }) is-legal
-
-    open-on-record : (L : ℕ) → L < 64 → is-open L (tree-of rows) ≡ not (no-rows (path-at rows L))
-    unfolding tree-of
-    open-on-record L = treeOf-open (record { rows = rows }) L is-legal
+    owner-on-record n = owner-is (tree-of rows) (legal-on-record rows) (path-at rows) (paths-on-record rows is-legal) n
 
     module _ (L : ℕ) (number : L ≤ 63) where
       allowed : no-rows (path-at rows L) ≡ false → line-refusal L (tree-of rows) ≡ none
-      allowed there = close-allowed L (tree-of rows) number (open-on-record L (omega arith) ∙ ap not there)
+      allowed there = close-allowed L (tree-of rows) number (open-on-record rows is-legal L (omega arith) ∙ ap not there)
 
       refused : no-rows (path-at rows L) ≡ true → line-refusal L (tree-of rows) ≡ some 4
-      refused absent = line-refused-4 L (tree-of rows) number (open-on-record L (omega arith) ∙ ap not absent)
+      refused absent = line-refused-4 L (tree-of rows) number (open-on-record rows is-legal L (omega arith) ∙ ap not absent)
 
       pub shown-on-record : no-rows (path-at rows L) ≡ false →
           show-outcome L (tree-of rows) ≡ gives (record { period = product (path-at rows L); start = sum (path-at rows L); rows = rows-11 (path-at rows L) })
       unfolding show-outcome gives-unless shown period-of start-of
-      shown-on-record there = rw (allowed there, ← path-on-record L (omega arith))
+      shown-on-record there = rw (allowed there, ← paths-on-record rows is-legal L (omega arith))
 
       pub turns-on-record : (N : ℕ) → no-rows (path-at rows L) ≡ false → turns-outcome L N (tree-of rows) ≡ gives (N / product (path-at rows L) + 1)
       unfolding turns-outcome gives-unless turns period-of
-      turns-on-record N there = rw (allowed there, ← path-on-record L (omega arith))
+      turns-on-record N there = rw (allowed there, ← paths-on-record rows is-legal L (omega arith))
 
       pub shown-refused-4 : no-rows (path-at rows L) ≡ true → show-outcome L (tree-of rows) ≡ refuses 4
       shown-refused-4 absent = shown-refused L 4 (tree-of rows) (refused absent)

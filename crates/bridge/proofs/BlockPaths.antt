@@ -3,7 +3,7 @@
 use Prim.Native.Nat.{ℕ, _<_}
 use native.Mathlib.Omega.{arith}
 use native.Mathlib.Decide.{decLt}
-use mathlib.Core.Path.{_≡_, refl, sym, _∙_}
+use mathlib.Core.Path.{_≡_, sym, _∙_}
 use mathlib.Core.Bool.{true, _||_}
 use mathlib.Core.List.{List}
 use lib.Dec.{ltb}
@@ -14,15 +14,14 @@ use Rattle.tree.specs.Asking.{rows-11}
 use Rattle.tree.specs.Record.{path-at, unused, rest-unused, numbers}
 use Rattle.paths.specs.Rules.{row-of}
 use Rattle.tree.proofs.Searching.{all-below-each}
-use Rattle.paths.proofs.RowLaws.{row-in, numbers-by-rows, rows-11-length, rows-11-row, row-beyond, line-row}
-use Rattle.paths.proofs.Blocks.{block, block-length, row-at-in-block, row-at-of-block}
-use Rattle.bridge.proofs.WrittenPaths.{Written, path-from-of-rows}
+use Rattle.paths.proofs.RowLaws.{row-in-numbers, same-by-rows, rows-11-row, row-beyond, line-row}
+use Rattle.paths.proofs.Blocks.{block, block-length, block-of-path-length, row-at-in-block, row-at-of-block}
+use Rattle.bridge.proofs.WrittenPaths.{Written, path-of-rows}
 
 -- A path is read back from its block
 
 pub path-of-block : (rows : List ℕ) (L : ℕ) (rs : List Row) → Written rs → block rows L ≡ numbers (rows-11 rs) → path-at rows L ≡ rs
-unfolding path-at
-path-of-block rows L rs written here = path-from-of-rows rows L rs written (row-at-of-block rows L rs here) 0 11 refl
+path-of-block rows L rs written here = path-of-rows rows L rs written (row-at-of-block rows L rs here)
 
 in-path-or-unused : (rs : List Row) (k : ℕ) → (ltb k (length rs) || unused (row-of k rs)) ≡ true
 unfolding unused
@@ -41,12 +40,8 @@ rest-unused-of-block rows L rs written here =
 
 pub block-of-path : (rows : List ℕ) (L : ℕ) → L < 64 → length rows ≡ 1408 → rest-unused rows L ≡ true → block rows L ≡ numbers (rows-11 (path-at rows L))
 block-of-path rows L below size rest =
-    numbers-by-rows (block rows L) (rows-11 rs) (omega (arith, block-length rows L below size, rows-11-length rs)) same
+    same-by-rows 11 (block rows L) (numbers (rows-11 rs)) (block-length rows L below size) (block-of-path-length rs) λ k within.
+    sym (row-at-in-block rows L k within) ∙ line-row rows L rest k within ∙ sym (rows-11-row rs k within) ∙ sym (row-in-numbers (rows-11 rs) k)
   where
     rs : List Row
     rs = path-at rows L
-
-    same : (k : ℕ) → k < length (rows-11 rs) → row-in (block rows L) k ≡ row-of k (rows-11 rs)
-    same k h =
-        let within : k < 11 = omega (arith, rows-11-length rs) in
-        sym (row-at-in-block rows L k within) ∙ line-row rows L rest k within ∙ sym (rows-11-row rs k within)

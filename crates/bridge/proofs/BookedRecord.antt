@@ -2,11 +2,10 @@
 -- Assumes nothing.
 use Prim.Native.Nat.{ℕ, zero, suc, _+_, _*_, _/_, _<_, _≤_}
 use native.Mathlib.Omega.{arith}
-use native.Mathlib.Decide.{ℕ-discrete}
 use mathlib.Core.Path.{_≡_, refl, sym, _∙_, ap, subst}
 use mathlib.Core.Logic.{inl, inr}
 use mathlib.Core.Bool.{Bool, true, false, true≢false}
-use mathlib.Core.List.{List, [], _∷_}
+use mathlib.Core.List.{List, []}
 use mathlib.Core.Option.{Option, none, some, Option·getD}
 use lib.Dec.{ltb}
 use lib.ListN.{length, take}
@@ -16,15 +15,16 @@ use Rattle.tree.specs.Search.{if_then_else_}
 use Rattle.tree.specs.Tree.{Tree, node, path, path-of, step}
 use Rattle.tree.specs.Opening.{divisor, opened, start-in, start-given}
 use Rattle.tree.specs.Asking.{rows-11}
-use Rattle.tree.specs.Record.{path-at, no-rows, legal, treeOf, numbers, recordOf}
+use Rattle.tree.specs.Record.{path-at, legal, treeOf, numbers, recordOf}
 use Rattle.paths.specs.Rules.{row-of, same-node, Spot, place-of, set-line, split-path, split-lines, booked-path, booked-at}
 use Rattle.tree.proofs.Searching.{last-or-below}
 use Rattle.tree.proofs.Opening.{MayOpen, opened-legal}
 use Rattle.paths.proofs.SameNode.{same-node-none}
-use Rattle.paths.proofs.Blocks.{block, set-line-length, block-set-line-same, block-set-line-other, rows-by-blocks}
-use Rattle.bridge.proofs.RecordBlocks.{record-length, block-of-record}
-use Rattle.bridge.proofs.TreeOfRecord.{treeOf-path, treeOf-path-of}
+use Rattle.paths.proofs.Blocks.{block, set-line-length, block-set-line-same, block-set-line-other}
+use Rattle.bridge.proofs.RecordBlocks.{set-line-record}
+use Rattle.bridge.proofs.TreeOfRecord.{treeOf-paths}
 use Rattle.bridge.proofs.NodesOnPaths.{same-node-exactly}
+use Rattle.bridge.proofs.ClassOnPaths.{path-family, family-path}
 use Rattle.bridge.proofs.SearchOnPaths.{FoundSpot}
 use Rattle.bridge.proofs.RouteOpening.{opened-path-new, opened-path-through, opened-path-beside, opened-path-none}
 use Rattle.bridge.proofs.WrittenPaths.{Written}
@@ -86,16 +86,6 @@ module _ (rows : List ℕ) (ps : List Row) (l d : ℕ) (long : length rows ≡ 1
           block-set-line-other (split-lines rows ps l d n) n M (split-path l d (path-at rows n)) (omega arith) (λ same. omega arith) (split-lines-length n (omega arith)) ∙ h
       by-test false h earlier = h
 
--- An open line's path, in the record and in the tree
-
-pub open-path : (plan : Plan) (M : ℕ) → legal (plan .rows) ≡ true → M < 64 → 0 < length (path-at (plan .rows) M) → path M (treeOf plan) ≡ some (path-at (plan .rows) M)
-unfolding no-rows
-open-path plan M is-legal below positive = treeOf-path plan M is-legal below ∙ by-rows (path-at (plan .rows) M) positive
-  where
-    by-rows : (rs : List Row) → 0 < length rs → (if no-rows rs then none else some rs) ≡ some rs
-    by-rows [] h = absurd (omega arith)
-    by-rows (r ∷ rs) h = refl
-
 -- The booking
 
 module _ (plan : Plan) (L p : ℕ) (s : Spot) (is-legal : legal (plan .rows) ≡ true) (long : length (plan .rows) ≡ 1408)
@@ -114,7 +104,7 @@ module _ (plan : Plan) (L p : ℕ) (s : Spot) (is-legal : legal (plan .rows) ≡
   path-after rs = if same-node (s .level) ps rs then (if ltb (s .divisor) weight then split-path (s .level) (s .divisor) rs else rs) else rs
 
   line-path : path (s .line) t ≡ some ps
-  line-path = open-path plan (s .line) is-legal (found-spot .line-below) (let most = found-spot .level-below in omega arith)
+  line-path = family-path t (path-at (plan .rows)) (treeOf-paths plan is-legal) (s .line) (s .level) (found-spot .line-below) (found-spot .level-below)
 
   -- what a line through the node becomes, by the spot's own divisor
   pub through-path : (M : ℕ) (rs : List Row) → path M t ≡ some rs → same-node (s .level) ps rs ≡ true →
@@ -150,11 +140,11 @@ module _ (plan : Plan) (L p : ℕ) (s : Spot) (is-legal : legal (plan .rows) ≡
     where
       by-path : (o : Option (List Row)) → path M t ≡ o → Option·getD (path M (opened L p t)) [] ≡ path-after (path-at (plan .rows) M)
       by-path none e =
-          let empty : path-at (plan .rows) M ≡ [] = sym (treeOf-path-of plan M is-legal below) ∙ ap (λ (o : Option (List Row)). Option·getD o []) e in
+          let empty : path-at (plan .rows) M ≡ [] = treeOf-paths plan is-legal M below ∙ ap (λ (o : Option (List Row)). Option·getD o []) e in
           ap (λ (o : Option (List Row)). Option·getD o []) (opened-path-none L p t may M other e)
           ∙ sym (ap path-after empty ∙ path-after-beside [] (same-node-none (s .level) ps))
       by-path (some rs) e =
-          let same : path-at (plan .rows) M ≡ rs = sym (treeOf-path-of plan M is-legal below) ∙ ap (λ (o : Option (List Row)). Option·getD o []) e in
+          let same = path-family t (path-at (plan .rows)) (treeOf-paths plan is-legal) M rs below e in
           ap (λ (o : Option (List Row)). Option·getD o []) (open-path-after M rs e) ∙ ap path-after (sym same)
 
   pub new-line-path : path L (opened L p t) ≡ some (booked-path (take (s .level) ps) (s .divisor) (s .class) (p / (s .step * s .divisor)))
@@ -208,30 +198,8 @@ module _ (plan : Plan) (L p : ℕ) (s : Spot) (is-legal : legal (plan .rows) ≡
   pub booked-record : booked-at (plan .rows) L p s ≡ recordOf (opened L p t) .rows
   unfolding booked-at
   booked-record =
-      rows-by-blocks (set-line split-rows L new-rows) (recordOf (opened L p t) .rows)
-      (set-line-length split-rows L new-rows L-below split-rows-length) (record-length (opened L p t)) each
-    where
-      new-rows : List Row
-      new-rows = booked-path (take (s .level) ps) (s .divisor) (s .class) (p / (s .step * s .divisor))
-
-      L-below : L < 64
-      L-below = let most = may .number-in-range in omega arith
-
-      each : (M : ℕ) → M < 64 → block (set-line split-rows L new-rows) M ≡ block (recordOf (opened L p t) .rows) M
-      each M below =
-          elim (ℕ-discrete M L) [
-            | yes same ↦
-                ap (block (set-line split-rows L new-rows)) same
-                ∙ block-set-line-same split-rows L new-rows L-below split-rows-length
-                ∙ ap (λ (rs : List Row). numbers (rows-11 rs)) (sym new-path)
-                ∙ sym (block-of-record (opened L p t) L L-below)
-                ∙ ap (block (recordOf (opened L p t) .rows)) (sym same)
-            | no other ↦
-                block-set-line-other split-rows L M new-rows L-below other split-rows-length
-                ∙ block-before M below
-                ∙ ap (λ (rs : List Row). numbers (rows-11 rs)) (sym (other-path M below other))
-                ∙ sym (block-of-record (opened L p t) M below)
-          ]
+      set-line-record split-rows L _ (opened L p t) (omega (arith, may .number-in-range)) split-rows-length (sym new-path) λ M below other.
+      block-before M below ∙ ap (λ (rs : List Row). numbers (rows-11 rs)) (sym (other-path M below other))
 
   -- the start that the code answers
   pub booked-start : s .offset + s .class * s .step ≡ start-given p t

@@ -9,7 +9,6 @@ use mathlib.Core.Option.{Option, none, some}
 use lib.ListN.{length}
 use Rattle.tree.specs.Search.{if_then_else_, found}
 use Rattle.tree.specs.Tree.{Tree, nothing, present, row, is-open, Place}
-use Rattle.tree.specs.Shape.{Legal}
 use Rattle.tree.specs.Opening.{opened, start-given}
 use Rattle.tree.specs.Closing.{closed}
 use Rattle.tree.specs.Refusals.{no-room, period-out-of-range, open-refusal}
@@ -21,10 +20,9 @@ use Rattle.tree.proofs.Standing.{open-stands}
 use Rattle.tree.proofs.Checks.{open-last-check, close-allowed, open-may}
 use Rattle.tree.proofs.Opening.{MayOpen, start-empty}
 use Rattle.bridge.specs.Rows.{tree-of, rows-unless, rows-after, CarriedOut}
-use Rattle.bridge.proofs.TreeOfRecord.{treeOf-legal, treeOf-open, treeOf-paths}
+use Rattle.bridge.proofs.TreeOfRecord.{legal-on-record, paths-on-record, open-on-record}
 use Rattle.bridge.proofs.ClosedRecord.{closed-record}
 use Rattle.bridge.proofs.FirstRecord.{AllClosed, all-closed-nothing, first-record}
-use Rattle.bridge.proofs.ClassOnPaths.{PathsOf}
 use Rattle.bridge.proofs.SearchOnPaths.{FoundSpot, search-none, search-some}
 use Rattle.bridge.proofs.BookedRecord.{booked-record, booked-start}
 
@@ -42,25 +40,20 @@ module _ (rows : List ℕ) (is-legal : legal rows ≡ true) (long : length rows 
   abbrev t : Tree
   t = tree-of rows
 
-  -- a line is open in the tree where its path in the record has rows
-  pub open-by-rows : (L : ℕ) → L < 64 → is-open L t ≡ not (no-rows (path-at rows L))
-  unfolding tree-of
-  open-by-rows L below = treeOf-open (record { rows = rows }) L is-legal below
-
   -- Close
 
   pub close-on : (L : ℕ) → L ≤ 63 → no-rows (path-at rows L) ≡ false → CarriedOut (close-line L) rows (set-line rows L []) done
   unfolding refusal reply carried-out tree-of
   close-on L number there =
       carried-on (close-line L) rows (set-line rows L [])
-      (close-allowed L t number (open-by-rows L (omega arith) ∙ ap not there))
+      (close-allowed L t number (open-on-record rows is-legal L (omega arith) ∙ ap not there))
       (closed-record (record { rows = rows }) L (omega arith) is-legal long)
 
   -- Open
 
   module _ (L p : ℕ) (number : L ≤ 63) (inside : period-out-of-range p ≡ false) (absent : no-rows (path-at rows L) ≡ true) where
     not-open : is-open L t ≡ false
-    not-open = open-by-rows L (omega arith) ∙ ap not absent
+    not-open = open-on-record rows is-legal L (omega arith) ∙ ap not absent
 
     -- check 5 is the one that is left
     last-check : open-refusal L p t ≡ (if no-room p t then some 5 else none)
@@ -76,26 +69,17 @@ module _ (rows : List ℕ) (is-legal : legal rows ≡ true) (long : length rows 
         (last-check ∙ ap (λ (b : Bool). if b then some 5 else none) room)
         (first-record (record { rows = rows }) L p (omega arith) positive is-legal long closed ∙ ap (λ (x : Tree). recordOf (opened L p x) .rows) (sym empty)))
 
-    -- the paths of the record are those of its tree
-    paths : PathsOf t (path-at rows)
-    unfolding tree-of
-    paths = treeOf-paths (record { rows = rows }) is-legal
-
-    tree-legal : Legal t
-    unfolding tree-of
-    tree-legal = treeOf-legal (record { rows = rows })
-
     pub open-full-on : (M : ℕ) → M < 64 → no-rows (path-at rows M) ≡ false → best-of-lines (path-at rows) p 64 ≡ none → CarriedOut (open-line L p) rows rows (refused 5)
     unfolding refusal no-room found
     open-full-on M below there none-found =
-        let here = stands-present M t _ _ (open-stands M t (open-by-rows M below ∙ ap not there)) in
-        let none-chosen = search-none t tree-legal (path-at rows) paths p none-found in
+        let here = stands-present M t _ _ (open-stands M t (open-on-record rows is-legal M below ∙ ap not there)) in
+        let none-chosen = search-none t (legal-on-record rows) (path-at rows) (paths-on-record rows is-legal) p none-found in
         let full : no-room p t ≡ true = rw (here, none-chosen) in
         refused-on (open-line L p) rows 5 (last-check ∙ ap (λ (b : Bool). if b then some 5 else none) full)
 
     module _ (s : Spot) (found-one : best-of-lines (path-at rows) p 64 ≡ some s) where
       pub spot-found : FoundSpot p t (path-at rows) s
-      spot-found = search-some t tree-legal (path-at rows) paths p s found-one
+      spot-found = search-some t (legal-on-record rows) (path-at rows) (paths-on-record rows is-legal) p s found-one
 
       room-found : no-room p t ≡ false
       unfolding no-room found
@@ -105,7 +89,7 @@ module _ (rows : List ℕ) (is-legal : legal rows ≡ true) (long : length rows 
       not-refused = last-check ∙ ap (λ (b : Bool). if b then some 5 else none) room-found
 
       pub may-open : MayOpen L p t
-      may-open = open-may L p t tree-legal not-refused
+      may-open = open-may L p t (legal-on-record rows) not-refused
 
       pub open-booked-on : CarriedOut (open-line L p) rows (booked-at rows L p s) (booked (s .offset + s .class * s .step))
       unfolding refusal reply carried-out tree-of

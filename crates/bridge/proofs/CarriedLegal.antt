@@ -13,7 +13,7 @@ use Rattle.tree.proofs.Checks.{open-may}
 use Rattle.tree.proofs.Opening.{opened-legal}
 use Rattle.tree.proofs.Closing.{closed-legal}
 use Rattle.bridge.specs.Rows.{tree-of, rows-unless, rows-after, CarriedOut, LegalWith}
-use Rattle.bridge.proofs.TreeOfRecord.{treeOf-legal}
+use Rattle.bridge.proofs.TreeOfRecord.{legal-on-record}
 use Rattle.bridge.proofs.RecordRoundTrip.{record-legal, record-has-tree}
 
 -- the tree that a call leaves which is not refused is legal
@@ -21,10 +21,6 @@ pub carried-out-legal : (c : Call) (t : Tree) → Legal t → refusal c t ≡ no
 unfolding refusal carried-out
 carried-out-legal (open-line L p) t is-legal allowed = opened-legal L p t (open-may L p t is-legal allowed)
 carried-out-legal (close-line L) t is-legal allowed = closed-legal L t is-legal
-
-tree-of-legal : (rows : List ℕ) → Legal (tree-of rows)
-unfolding tree-of
-tree-of-legal rows = treeOf-legal (record { rows = rows })
 
 recorded : (t : Tree) → Legal t → LegalWith (recordOf t .rows) t
 unfolding tree-of
@@ -45,4 +41,4 @@ carried-legal c before left a is-legal carried = rw (carried .rows-are) (by-refu
     by-refusal : (o : Option ℕ) → refusal c t ≡ o →
         LegalWith (rows-unless o before (recordOf (carried-out c t) .rows)) (tree-unless o t (carried-out c t))
     by-refusal (some n) e = record { is-legal = is-legal; tree-is = refl }
-    by-refusal none e = recorded (carried-out c t) (carried-out-legal c t (tree-of-legal before) e)
+    by-refusal none e = recorded (carried-out c t) (carried-out-legal c t (legal-on-record before) e)

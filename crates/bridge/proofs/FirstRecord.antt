@@ -2,32 +2,26 @@
 -- Assumes nothing.
 use Prim.Native.Nat.{ℕ, zero, suc, _<_, _≤_}
 use native.Mathlib.Omega.{arith}
-use native.Mathlib.Decide.{ℕ-discrete}
 use mathlib.Core.Path.{_≡_, refl, sym, _∙_, ap}
-use mathlib.Core.Bool.{true, false≢true}
+use mathlib.Core.Bool.{true}
 use mathlib.Core.List.{List, [], _∷_}
 use mathlib.Core.Option.{Option, Option·getD}
 use lib.ListN.{length}
 use Rattle.tree.specs.declared.Row.{Row}
 use Rattle.tree.specs.declared.Plan.{Plan}
-use Rattle.tree.specs.Tree.{Tree, nothing, row, path-of}
+use Rattle.tree.specs.Tree.{nothing, row, path-of}
 use Rattle.tree.specs.Opening.{opened}
 use Rattle.tree.specs.Asking.{rows-11}
 use Rattle.tree.specs.Record.{path-at, no-rows, legal, grown, treeOf, numbers, recordOf}
 use Rattle.paths.specs.Rules.{set-line}
-use Rattle.paths.proofs.Blocks.{block, set-line-length, block-set-line-same, block-set-line-other, rows-by-blocks}
-use Rattle.bridge.proofs.RecordBlocks.{record-length, block-of-record}
+use Rattle.paths.proofs.RowLaws.{no-rows-empty}
+use Rattle.bridge.proofs.RecordBlocks.{set-line-record}
 use Rattle.bridge.proofs.RouteOpening.{opened-path-empty, opened-path-empty-other}
 use Rattle.bridge.proofs.ClosedRecord.{legal-block}
 
 -- no line is open in the record
 unfoldable pub AllClosed : List ℕ → Type 0
 AllClosed rows = (M : ℕ) → M < 64 → no-rows (path-at rows M) ≡ true
-
-no-rows-empty : (rs : List Row) → no-rows rs ≡ true → rs ≡ []
-unfolding no-rows
-no-rows-empty [] h = refl
-no-rows-empty (r ∷ rs) h = absurd (false≢true h)
 
 grown-nothing : (rows : List ℕ) (n : ℕ) → n ≤ 64 → AllClosed rows → grown rows n ≡ nothing
 unfolding grown AllClosed
@@ -42,30 +36,10 @@ pub first-record : (plan : Plan) (L p : ℕ) → L < 64 → 0 < p → legal (pla
     set-line (plan .rows) L (row p 0 ∷ []) ≡ recordOf (opened L p nothing) .rows
 unfolding path-of AllClosed
 first-record plan L p below positive is-legal long closed =
-    rows-by-blocks (set-line rows L first-path) (recordOf t .rows) (set-line-length rows L first-path below long) (record-length t) each
+    set-line-record rows L (row p 0 ∷ []) (opened L p nothing) below long (ap (λ (o : Option (List Row)). Option·getD o []) (sym (opened-path-empty L p positive))) λ M M-below other.
+    legal-block rows M is-legal long M-below
+    ∙ ap (λ (rs : List Row). numbers (rows-11 rs)) (no-rows-empty (path-at rows M) (closed M M-below))
+    ∙ ap (λ (o : Option (List Row)). numbers (rows-11 (Option·getD o []))) (sym (opened-path-empty-other L p M other))
   where
     rows : List ℕ
     rows = plan .rows
-
-    first-path : List Row
-    first-path = row p 0 ∷ []
-
-    t : Tree
-    t = opened L p nothing
-
-    each : (M : ℕ) → M < 64 → block (set-line rows L first-path) M ≡ block (recordOf t .rows) M
-    each M M-below =
-        elim (ℕ-discrete M L) [
-          | yes same ↦
-              ap (block (set-line rows L first-path)) same
-              ∙ block-set-line-same rows L first-path below long
-              ∙ ap (λ (o : Option (List Row)). numbers (rows-11 (Option·getD o []))) (sym (opened-path-empty L p positive))
-              ∙ sym (block-of-record t L below)
-              ∙ ap (block (recordOf t .rows)) (sym same)
-          | no other ↦
-              block-set-line-other rows L M first-path below other long
-              ∙ legal-block rows M is-legal long M-below
-              ∙ ap (λ (rs : List Row). numbers (rows-11 rs)) (no-rows-empty (path-at rows M) (closed M M-below))
-              ∙ ap (λ (o : Option (List Row)). numbers (rows-11 (Option·getD o []))) (sym (opened-path-empty-other L p M other))
-              ∙ sym (block-of-record t M M-below)
-        ]

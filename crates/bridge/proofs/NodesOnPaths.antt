@@ -6,12 +6,12 @@ use native.Mathlib.Nat.{mod-lt, mod-add-div}
 use mathlib.Core.Path.{_≡_, refl, sym, _∙_, ap, ap₂, subst}
 use mathlib.Core.Logic.{_↔_}
 use mathlib.Core.Bool.{true, false≢true, and-eq-true-iff}
-use mathlib.Core.List.{List, [], _∷_, _++_}
+use mathlib.Core.List.{List, _∷_, _++_}
 use mathlib.Core.Option.{some, Option·none-ne-some}
 use lib.Dec.{eqb}
 use lib.ListN.{length, take, drop, length-append}
-use lib.Seq.{take-at, getD-at}
-use borrow.Author.Tests.{eqb-true, eq-eqb}
+use lib.Seq.{take-at, getD-at, getD-take}
+use borrow.Author.Tests.{eqb-true}
 use Rattle.tree.specs.declared.Row.{Row}
 use Rattle.tree.specs.Tree.{Tree, nothing, line, node, present, row, sum-from, sum, path, Place, at-digits, at, way-by-digits, way}
 use Rattle.tree.specs.Opening.{under}
@@ -25,7 +25,7 @@ use Rattle.tree.proofs.Standing.{path-of-line, path-below, path-stands, sum-row
 use Rattle.tree.proofs.ChosenCandidate.{at-under}
 use Rattle.tree.proofs.Opening.{at-proper}
 use Rattle.tree.proofs.Numbering.{stands-number}
-use Rattle.paths.proofs.SameNode.{same-node-goes-on}
+use Rattle.paths.proofs.SameNode.{same-node-goes-on, same-node-by-edges}
 use Rattle.bridge.proofs.NodePath.{path-under}
 use Rattle.bridge.proofs.SameTree.{present-path}
 
@@ -203,15 +203,9 @@ module _ (t : Tree) (legal : Legal t) (a : Place) (w : ℕ) (f : ℕ → Tree) (
 -- Two paths go through the same node
 
 rows-same-node : (l : ℕ) (rs qs : List Row) → take l qs ≡ take l rs → l < length rs → l < length qs → same-node l rs qs ≡ true
-unfolding same-node
-rows-same-node l [] qs same long-r long-q = absurd (omega arith)
-rows-same-node l (r ∷ rs) [] same long-r long-q = absurd (omega arith)
-rows-same-node zero (r ∷ rs) (q ∷ qs) same long-r long-q = refl
-rows-same-node (suc l) (r ∷ rs) (q ∷ qs) same long-r long-q =
-    let first-row : r ≡ q = cc in
-    let later-rows : take l qs ≡ take l rs = cc in
-    rw (eq-eqb (r .edge) (q .edge) (ap (λ (x : Row). x .edge) first-row))
-    (rows-same-node l rs qs later-rows (omega arith) (omega arith))
+unfolding row-of
+rows-same-node l rs qs same long-r long-q = same-node-by-edges l rs qs long-r long-q λ k below.
+    ap (λ (r : Row). r .edge) (sym (getD-take l rs k (row 0 0) below) ∙ ap (row-of k) (sym same) ∙ getD-take l qs k (row 0 0) below)
 
 same-node-rows : (M N : ℕ) (t : Tree) (l : ℕ) (rs qs : List Row) → path M t ≡ some rs → path N t ≡ some qs → same-node l rs qs ≡ true → take l qs ≡ take l rs
 unfolding path same-node

@@ -21,9 +21,11 @@ use Rattle.tree.proofs.Proper.{legal-proper}
 use Rattle.tree.proofs.Depth.{at-most-11-above}
 use Rattle.tree.proofs.BookingAt.{Fit, FitIn}
 use Rattle.tree.proofs.Opening.{MayOpen, chosen-fits, opened-legal, opened-new}
-use Rattle.bridge.proofs.SearchOnPaths.{FoundSpot}
 use Rattle.paths.proofs.SameNode.{same-node-goes-on}
-use Rattle.bridge.proofs.BookedRecord.{open-path, through-path, new-line-path, booked-start}
+use Rattle.bridge.proofs.ClassOnPaths.{family-path}
+use Rattle.bridge.proofs.SearchOnPaths.{FoundSpot}
+use Rattle.bridge.proofs.TreeOfRecord.{treeOf-paths}
+use Rattle.bridge.proofs.BookedRecord.{through-path, new-line-path, booked-start}
 
 split-path-length : (l d : ℕ) (rs : List Row) → l < length rs → length (split-path l d rs) ≡ suc (length rs)
 unfolding split-path
@@ -87,7 +89,7 @@ module _ (plan : Plan) (L p : ℕ) (s : Spot) (is-legal : legal (plan .rows) ≡
   row-left M below through small =
       let rs = path-at (plan .rows) M in
       let reaches = same-node-goes-on (s .level) ps rs through .1 in
-      let after = through-path plan L p s is-legal long may found-spot M rs (open-path plan M is-legal below (omega arith)) through in
+      let after = through-path plan L p s is-legal long may found-spot M rs (family-path t (path-at (plan .rows)) (treeOf-paths plan is-legal) M (s .level) below reaches) through in
       let split = rw (lt-ltb (s .divisor) weight small) at after in
       let most = at-most-11-above (opened L p t) M (split-path (s .level) (s .divisor) rs) (opened-legal L p t may) split in
       let longer = split-path-length (s .level) (s .divisor) rs reaches in

@@ -15,7 +15,7 @@ use Rattle.tree.specs.Opening.{put}
 use Rattle.tree.specs.Shape.{Edges, LegalUnder}
 use Rattle.tree.specs.Record.{rows-in-range, stand}
 use Rattle.tree.proofs.Searching.{found-none}
-use Rattle.tree.proofs.Put.{InPut, put-stands, put-same, put-each}
+use Rattle.tree.proofs.Put.{put-stands, put-same, put-each, under-put-edge}
 use Rattle.tree.proofs.Proper.{Proper, nothing-open, only-edge-edges}
 use Rattle.tree.proofs.Standing.{open-stands, stands-open, not-open-below}
 use Rattle.tree.proofs.BookingAt.{put-edges}
@@ -46,12 +46,9 @@ module _ (L : ℕ) where
   stood-or-new M (r ∷ rs) (line n) q u h = inl h
   stood-or-new M (r ∷ rs) (node w f) q u h =
       elim (put-stands M w (r .edge) (stand L rs (f (r .edge))) f q u h) [
-        | inl x ↦ elim (stood-or-new M rs (f (r .edge)) (x .period) (x .start) (x .stands)) [ inl old ↦ inl (stood x old) | inr new ↦ inr new ]
+        | inl x ↦ elim (stood-or-new M rs (f (r .edge)) (x .period) (x .start) (x .stands)) [ inl old ↦ inl (under-put-edge x old) | inr new ↦ inr new ]
         | inr x ↦ inl (x .in-node)
       ]
-    where
-      stood : (x : InPut M w (r .edge) (stand L rs (f (r .edge))) q u) → Stands M (f (r .edge)) (x .period) (x .start) → Stands M (node w f) q u
-      stood x old = record { edge = r .edge; period = x .period; start = x .start; edge-below = x .edge-below; stands = old; period-is = x .period-is; start-is = x .start-is }
 
   open-or-new : (M : ℕ) (rs : List Row) (t : Tree) → is-open M (stand L rs t) ≡ true → (is-open M t ≡ true) ⊎ (M ≡ L)
   open-or-new M rs t h =

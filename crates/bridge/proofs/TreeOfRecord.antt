@@ -13,6 +13,7 @@ use Rattle.tree.specs.Search.{if_then_else_, found}
 use Rattle.tree.specs.Tree.{nothing, path, is-open, path-of}
 use Rattle.tree.specs.Shape.{Legal}
 use Rattle.tree.specs.Record.{path-at, no-rows, legal, grown, treeOf}
+use Rattle.bridge.specs.Rows.{tree-of}
 use Rattle.bridge.proofs.ClassOnPaths.{PathsOf}
 use Rattle.bridge.proofs.Grown.{path-held, grown-path, grown-legal}
 
@@ -44,15 +45,6 @@ treeOf-path-of plan M is-legal below = ap (λ (o : Option (List Row)). Option·g
     held-rows [] = refl
     held-rows (r ∷ rs) = refl
 
--- a line is open in the tree where its path in the record has rows
-pub treeOf-open : (plan : Plan) (M : ℕ) → legal (plan .rows) ≡ true → M < 64 → is-open M (treeOf plan) ≡ not (no-rows (path-at (plan .rows) M))
-unfolding is-open found
-treeOf-open plan M is-legal below = ap found (treeOf-path plan M is-legal below) ∙ by-rows (no-rows (path-at (plan .rows) M))
-  where
-    by-rows : (b : Bool) → found (if b then none else some (path-at (plan .rows) M)) ≡ not b
-    by-rows true = refl
-    by-rows false = refl
-
 -- the paths of the record are those of its tree
 pub treeOf-paths : (plan : Plan) → legal (plan .rows) ≡ true → PathsOf (treeOf plan) (path-at (plan .rows))
 treeOf-paths plan is-legal M below = sym (treeOf-path-of plan M is-legal below)
@@ -64,3 +56,24 @@ treeOf-path-beyond plan M beyond = go (legal (plan .rows)) refl
     go : (b : Bool) → legal (plan .rows) ≡ b → path M (if b then grown (plan .rows) 64 else nothing) ≡ none
     go true e = grown-path (plan .rows) e 64 (omega arith) M ∙ rw (le-ltb M 64 beyond)
     go false e = refl
+
+-- By the numbers of a record
+
+module _ (rows : List ℕ) where
+  pub legal-on-record : Legal (tree-of rows)
+  unfolding tree-of
+  legal-on-record = treeOf-legal (record { rows = rows })
+
+  module _ (is-legal : legal rows ≡ true) where
+    pub paths-on-record : PathsOf (tree-of rows) (path-at rows)
+    unfolding tree-of
+    paths-on-record = treeOf-paths (record { rows = rows }) is-legal
+
+    -- a line is open in the tree where its path in the record has rows
+    pub open-on-record : (L : ℕ) → L < 64 → is-open L (tree-of rows) ≡ not (no-rows (path-at rows L))
+    unfolding tree-of is-open found
+    open-on-record L below = ap found (treeOf-path (record { rows = rows }) L is-legal below) ∙ by-rows (no-rows (path-at rows L))
+      where
+        by-rows : (b : Bool) → found (if b then none else some (path-at rows L)) ≡ not b
+        by-rows true = refl
+        by-rows false = refl

@@ -12,7 +12,7 @@ use Rattle.tree.specs.Tree.{product, sum-from, sum}
 use Rattle.tree.specs.Record.{row-at, path-at, no-rows, legal}
 use Rattle.paths.specs.Rules.{Spot, spot-at, better-spot, best-on-path, best-of-lines}
 use Rattle.paths.proofs.LegalLines.{legal-in-range}
-use Rattle.paths.proofs.RowLaws.{no-rows-length}
+use Rattle.paths.proofs.RowLaws.{no-rows-empty}
 use Rattle.candidates.specs.declared.Chosen.{Chosen}
 use Rattle.candidates.specs.declared.Chosen.the-variants.{Nothing}
 use Rattle.candidates.specs.Answers.{spot-of, Reached}
@@ -80,7 +80,7 @@ module _ {rows : List ℕ} {p : ℕ} {best : Chosen} {n : ℕ} (best-of : BestOf
   -- a closed line offers nothing
   pub best-of-closed : n < 64 → no-rows (path-at rows n) ≡ true → BestOf rows p best (n + 1)
   unfolding best-on-path
-  best-of-closed below closed = best-of-more below (rw (no-rows-length (path-at rows n) closed))
+  best-of-closed below closed = best-of-more below (rw (no-rows-empty (path-at rows n) closed))
 
   pub best-of-all : 64 ≤ n → spot-of best ≡ best-of-lines (path-at rows) p 64
   best-of-all past =

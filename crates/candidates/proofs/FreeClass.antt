@@ -11,7 +11,8 @@ use borrow.Author.Tests.{eq-eqb, ne-eqb}
 use Rattle.tree.specs.Record.{row-at, path-at}
 use Rattle.paths.specs.Rules.{row-of, same-node, class-taken, class-on-path}
 use Rattle.tree.proofs.Searching.{some-below-at}
-use Rattle.paths.proofs.NoneBelow.{NoneBelow, none-below-start, none-below-more, smallest-here, smallest-nowhere, none-passes}
+use Rattle.paths.proofs.AllBelow.{so-far-none, so-far-more}
+use Rattle.paths.proofs.NoneBelow.{NoneBelow, smallest-here, smallest-nowhere, none-passes}
 use Rattle.paths.proofs.SameNode.{edge-read}
 
 -- line M goes through the node at level l of line L's path, and takes an edge of class i there
@@ -32,7 +33,7 @@ pub record Lines (rows : List ℕ) (L l d i₀ i M : ℕ) : Type 0 where
   pub searched : NoneBelow 64 (takes rows L l d i) M
 
 pub lines-start : (rows : List ℕ) (L l d i : ℕ) → Lines rows L l d i i 0
-lines-start rows L l d i = record { present = refl; searched = none-below-start 64 (takes rows L l d i) }
+lines-start rows L l d i = record { present = refl; searched = so-far-none 64 (takes rows L l d i) }
 
 -- e was read as the edge in row l of line M
 module _ (rows : List ℕ) (L l d i M : ℕ) {e : ℕ} (read : e ≡ row-at rows M l .edge) where
@@ -44,7 +45,7 @@ module _ (rows : List ℕ) (L l d i M : ℕ) {e : ℕ} (read : e ≡ row-at rows
 
 module _ {rows : List ℕ} {L l d i₀ i M : ℕ} (lines : Lines rows L l d i₀ i M) where
   lines-more : M < 64 → takes rows L l d i M ≡ false → Lines rows L l d i₀ i (M + 1)
-  lines-more below not-taken = record { present = lines .present; searched = none-below-more (lines .searched) below not-taken }
+  lines-more below not-taken = record { present = lines .present; searched = so-far-more (lines .searched) below not-taken }
 
   module _ (below : M < 64) {e : ℕ} (read : e ≡ row-at rows M l .edge) where
     pub other-class : (e % d ≡ i → ⊥) → Lines rows L l d i₀ i (M + 1)
@@ -60,7 +61,7 @@ module _ {rows : List ℕ} {L l d i₀ i M : ℕ} (lines : Lines rows L l d i₀
       unfolding class-taken
       class-passed classes in-range same through =
           let taken = some-below-at 64 (takes rows L l d i) M below (takes-class rows L l d i M read same (sym answered ∙ through)) in
-          none-below-more (rw (← lines .present) at classes) (omega (arith, lines .present)) (ap not taken)
+          so-far-more (rw (← lines .present) at classes) (omega (arith, lines .present)) (ap not taken)
 
   -- no line takes it
   pub class-free : Classes rows L l d i₀ → i₀ < d → 64 ≤ M → class-on-path (path-at rows) (path-at rows L) l d ≡ some i

@@ -2,7 +2,7 @@
 -- Assumes nothing.
 use Prim.Native.Nat.{ℕ, zero, suc, _+_, _<_, _≤_}
 use mathlib.Core.Path.{_≡_, refl, sym, _∙_}
-use mathlib.Core.Bool.{Bool, true, false, _||_, not, false≢true}
+use mathlib.Core.Bool.{Bool, true, false, _||_, not, false≢true, and-eq-true-iff}
 use mathlib.Core.List.{List, [], _∷_}
 use mathlib.Core.Option.{Option, none, some, Option·map, Option·some-ne-none}
 use lib.Dec.{eqb}
@@ -16,30 +16,19 @@ use Rattle.tree.specs.Opening.{divisor}
 use Rattle.tree.specs.Record.{path-at, parts, no-rows, together, legal}
 use Rattle.paths.specs.Rules.{Family, row-of, same-node, class-taken, class-on-path, Spot, place-of, spot-with, spot-at, better-spot}
 use Rattle.tree.proofs.Searching.{some-below-true, some-below-at}
-use Rattle.paths.proofs.AllBelow.{both-true}
 use Rattle.paths.proofs.LegalLines.{legal-together}
 use Rattle.candidates.specs.Answers.{seen-earlier, Reached}
-use Rattle.paths.proofs.NoneBelow.{NoneBelow, none-below-more, none-passes}
-use Rattle.paths.proofs.SameNode.{same-node-goes-on}
+use Rattle.paths.proofs.AllBelow.{so-far-more}
+use Rattle.paths.proofs.NoneBelow.{NoneBelow, none-passes}
+use Rattle.paths.proofs.SameNode.{same-node-goes-on, same-node-either}
 use Rattle.candidates.proofs.NothingBetter.{NoBetter, no-better-place, place-no-better, path-keeps, lines-searched}
 
 -- One node
 
--- two paths through one node at level l: the rows above it, its weight, and which other paths go through it
+-- two paths through one node at level l: the rows above it, and its weight
 pub record OneNode (l : ℕ) (ps qs : List Row) : Type 0 where
   pub rows-above : take l ps ≡ take l qs
   pub weight-is : row-of l ps .weight ≡ row-of l qs .weight
-  pub through : (rs : List Row) → same-node l ps rs ≡ same-node l qs rs
-
-root-through : (p q : Row) (ps qs rs : List Row) → same-node zero (p ∷ ps) rs ≡ same-node zero (q ∷ qs) rs
-unfolding same-node
-root-through p q ps qs [] = refl
-root-through p q ps qs (r ∷ rs) = refl
-
-below-through : (l : ℕ) (p q : Row) (ps qs rs : List Row) → p .edge ≡ q .edge → ((rs : List Row) → same-node l ps rs ≡ same-node l qs rs) → same-node (suc l) (p ∷ ps) rs ≡ same-node (suc l) (q ∷ qs) rs
-unfolding same-node
-below-through l p q ps qs [] same later = refl
-below-through l p q ps qs (r ∷ rs) same later = rw (same, later rs)
 
 -- in one tree, two paths with the same edges as far as level l go through one node there
 pub one-node : (l : ℕ) (ps qs : List Row) → parts ps qs ≡ true → same-node l ps qs ≡ true → OneNode l ps qs
@@ -48,19 +37,17 @@ one-node l [] qs part meet = absurd (false≢true part)
 one-node l (p ∷ ps) [] part meet = absurd (false≢true part)
 one-node zero (p ∷ ps) (q ∷ qs) part meet = record {
   rows-above = refl;
-  weight-is = eqb-true _ _ (both-true (eqb (p .weight) (q .weight)) (not (eqb (p .edge) (q .edge)) || parts ps qs) part .0);
-  through = root-through p q ps qs;
+  weight-is = eqb-true _ _ (and-eq-true-iff (eqb (p .weight) (q .weight)) (not (eqb (p .edge) (q .edge)) || parts ps qs) .0 part .0);
 }
 one-node (suc l) (p ∷ ps) (q ∷ qs) part meet =
-    let parted = both-true (eqb (p .weight) (q .weight)) (not (eqb (p .edge) (q .edge)) || parts ps qs) part in
-    let met = both-true (eqb (p .edge) (q .edge)) (same-node l ps qs) meet in
+    let parted = and-eq-true-iff (eqb (p .weight) (q .weight)) (not (eqb (p .edge) (q .edge)) || parts ps qs) .0 part in
+    let met = and-eq-true-iff (eqb (p .edge) (q .edge)) (same-node l ps qs) .0 meet in
     let weights = eqb-true (p .weight) (q .weight) (parted .0) in
     let edges = eqb-true (p .edge) (q .edge) (met .0) in
     let later = one-node l ps qs (rw (met .0) at (parted .1)) (met .1) in
     record {
       rows-above = λ i. record { weight = weights i; edge = edges i } ∷ later .rows-above i;
       weight-is = later .weight-is;
-      through = λ rs. below-through l p q ps qs rs edges (later .through);
     }
 
 -- One offer
@@ -69,9 +56,9 @@ one-node (suc l) (p ∷ ps) (q ∷ qs) part meet =
 offer : ℕ → ℕ → ℕ → ℕ → ℕ → Bool → Option ℕ → Option Spot
 offer M l m r d b i = if b then Option·map (λ c. record { line = M; level = l; offset = r; step = m; divisor = d; class = c }) i else none
 
-same-class : (family : Family) (ps qs : List Row) (l d : ℕ) → OneNode l ps qs → class-on-path family ps l d ≡ class-on-path family qs l d
+same-class : (family : Family) (ps qs : List Row) (l d : ℕ) → same-node l ps qs ≡ true → class-on-path family ps l d ≡ class-on-path family qs l d
 unfolding class-on-path class-taken
-same-class family ps qs l d one = simp (one .through)
+same-class family ps qs l d meet = simp (same-node-either l ps qs meet)
 
 -- offers that differ in the line alone are no better together
 other-line : (M L l m r d : ℕ) (b : Bool) (i : Option ℕ) (o : Option Spot) → NoBetter (offer M l m r d b i) o → NoBetter (offer L l m r d b i) o
@@ -81,13 +68,13 @@ other-line M L l m r d true none o h = h
 other-line M L l m r d true (some i) none h = absurd (Option·some-ne-none _ h)
 other-line M L l m r d true (some i) (some s) h = place-no-better _ s (no-better-place _ s h)
 
-same-offer : (family : Family) (p M L l : ℕ) → OneNode l (family M) (family L) → (o : Option Spot) → NoBetter (spot-at family p M l) o → NoBetter (spot-at family p L l) o
+same-offer : (family : Family) (p M L l : ℕ) → OneNode l (family M) (family L) → same-node l (family M) (family L) ≡ true → (o : Option Spot) → NoBetter (spot-at family p M l) o → NoBetter (spot-at family p L l) o
 unfolding spot-at spot-with offer
-same-offer family p M L l one o h =
+same-offer family p M L l one meet o h =
     let m = product (take l (family L)) in
     let d = divisor p m (row-of l (family L) .weight) in
     other-line M L l m (sum (take l (family L))) d (divides m p) (class-on-path family (family L) l d) o
-    (rw (one .rows-above, one .weight-is, same-class family (family M) (family L) l _ one) at h)
+    (rw (one .rows-above, one .weight-is, same-class family (family M) (family L) l _ meet) at h)
 
 -- A node seen earlier
 
@@ -107,7 +94,7 @@ seen-no-better rows p L l is-legal below reached seen =
     let part = parts-where-met l (path-at rows M) (path-at rows L) (legal-together rows is-legal L below M (found .1)) (found .2) in
     let searched = path-keeps (path-at rows) p _ _ L l (lines-searched (path-at rows) p L M l (found .1) row-there) in
     rw (reached .best-is)
-    (same-offer (path-at rows) p M L l (one-node l (path-at rows M) (path-at rows L) part (found .2)) _ searched)
+    (same-offer (path-at rows) p M L l (one-node l (path-at rows M) (path-at rows L) part (found .2)) (found .2) _ searched)
 
 -- The search of the earlier lines
 
@@ -118,7 +105,7 @@ Unseen rows L l k = NoneBelow L (λ M. same-node l (path-at rows M) (path-at row
 -- b answered whether line k does
 module _ (rows : List ℕ) (L l : ℕ) {k : ℕ} (unseen : Unseen rows L l k) (below : k < L) {b : Bool} (answered : b ≡ same-node l (path-at rows k) (path-at rows L)) where
   pub unseen-more : b ≡ false → Unseen rows L l (k + 1)
-  unseen-more apart = none-below-more unseen below (sym answered ∙ apart)
+  unseen-more apart = so-far-more unseen below (sym answered ∙ apart)
 
   pub seen-there : b ≡ true → seen-earlier (path-at rows) L l ≡ true
   unfolding seen-earlier

@@ -20,7 +20,7 @@ use Rattle.candidates.specs.declared.Spot.{Spot as Spot·}
 use Rattle.candidates.specs.declared.Chosen.{Chosen}
 use Rattle.candidates.specs.declared.Chosen.the-variants.{At, Nothing}
 use Rattle.candidates.specs.Answers.{class-of, spot-of, comes-first}
-use Rattle.paths.proofs.PathRows.{row-in-path}
+use Rattle.paths.proofs.PathRows.{weight-read}
 
 -- The offer of one node
 
@@ -29,7 +29,7 @@ module _ (rows : List ℕ) (p L l m r : ℕ) where
   module _ (divided : divides m p ≡ true) (below : l < length (path-at rows L)) {w : ℕ} (read : w ≡ row-at rows L l .weight) {d : ℕ} (common : d ≡ gcd w (p / m)) where
     divisor-is : divisor p m (row-of l (path-at rows L) .weight) ≡ d
     unfolding divisor
-    divisor-is = rw (row-in-path rows L below, ← read) (sym common)
+    divisor-is = rw (weight-read rows L below read) (sym common)
 
     -- and x the class found
     module _ {x : Class} (found : class-of x ≡ class-on-path (path-at rows) (path-at rows L) l d) where

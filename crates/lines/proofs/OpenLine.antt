@@ -19,13 +19,14 @@ use Rattle.tree.proofs.Checks.{range-positive, range-at-most, open-refused-1, o
 use Rattle.tree.proofs.Opening.{MayOpen}
 use Rattle.tree.proofs.Searching.{all-below-at}
 use Rattle.paths.proofs.AllBelow.{all-below-faulty}
-use Rattle.paths.proofs.RowLaws.{no-rows-length}
+use Rattle.paths.proofs.RowLaws.{no-rows-empty}
 use Rattle.paths.proofs.LegalLines.{legal-rest-unused}
 use Rattle.booking.specs.Writing.{Placeable}
 use Rattle.bridge.specs.Rows.{tree-of, CarriedOut}
 use Rattle.bridge.proofs.SearchOnPaths.{FoundSpot}
 use Rattle.bridge.proofs.FirstRecord.{AllClosed}
-use Rattle.bridge.proofs.CallsOnRecords.{refused-on, open-by-rows, open-first-on, open-full-on, spot-found, may-open}
+use Rattle.bridge.proofs.TreeOfRecord.{open-on-record}
+use Rattle.bridge.proofs.CallsOnRecords.{refused-on, open-first-on, open-full-on, spot-found, may-open}
 use Rattle.bridge.proofs.SpotFacts.{divisor-positive, product-at-most, product-positive, start-below, row-left, rows-fit}
 use Rattle.bridge.proofs.BookedRecord.{split-path-at}
 use Rattle.lines.specs.Bookable.{Bookable, BookableAt, SplittableIfSmaller, split-if-smaller}
@@ -45,11 +46,11 @@ unfolding refusal
 open-long rows L p number positive above =
     refused-on (open-line L p) rows 2 (open-refused-2 L p (tree-of rows) number (above-out-of-range p positive above))
 
-pub open-again : (rows : List ℕ) (L p : ℕ) → legal rows ≡ true → length rows ≡ 1408 → L ≤ 63 → period-out-of-range p ≡ false → no-rows (path-at rows L) ≡ false → CarriedOut (open-line L p) rows rows (refused 3)
+pub open-again : (rows : List ℕ) (L p : ℕ) → legal rows ≡ true → L ≤ 63 → period-out-of-range p ≡ false → no-rows (path-at rows L) ≡ false → CarriedOut (open-line L p) rows rows (refused 3)
 unfolding refusal
-open-again rows L p is-legal long number inside there =
+open-again rows L p is-legal number inside there =
     refused-on (open-line L p) rows 3
-    (open-refused-3 L p (tree-of rows) number inside (open-by-rows rows is-legal long L (omega arith) ∙ ap not there))
+    (open-refused-3 L p (tree-of rows) number inside (open-on-record rows is-legal L (omega arith) ∙ ap not there))
 
 -- Without a candidate
 
@@ -123,7 +124,7 @@ module _ (rows : List ℕ) (L p : ℕ) (s : Spot) (ready-at : BookableAt rows L 
   -- the line through the node is another one
   other-line : s .line ≡ L → ⊥
   other-line same =
-      let none : length (path-at rows (s .line)) ≡ 0 = ap (λ (M : ℕ). length (path-at rows M)) same ∙ no-rows-length (path-at rows L) (ready .absent) in
+      let none : length (path-at rows (s .line)) ≡ 0 = ap (λ (M : ℕ). length (path-at rows M)) same ∙ ap length (no-rows-empty (path-at rows L) (ready .absent)) in
       let below = found-spot .level-below in
       omega arith
 

@@ -1,22 +1,18 @@
 -- A node that is split where the divisor is below its weight.
 -- Assumes nothing.
 use Prim.Native.Nat.{ℕ, _<_, _≤_}
-use mathlib.Core.Path.{_≡_, sym, _∙_, ap}
+use mathlib.Core.Path.{_≡_}
 use mathlib.Core.List.{List}
 use lib.ListN.{length}
 use borrow.Author.Tests.{lt-ltb, le-ltb}
-use Rattle.tree.specs.declared.Row.{Row}
 use Rattle.tree.specs.Record.{row-at, path-at}
 use Rattle.paths.specs.Rules.{row-of, split-lines}
-use Rattle.paths.proofs.PathRows.{row-in-path}
+use Rattle.paths.proofs.PathRows.{weight-read}
 use Rattle.lines.specs.Bookable.{split-if-smaller}
 
 module _ (rows : List ℕ) (L l d w : ℕ) (below : l < length (path-at rows L)) (read : w ≡ row-at rows L l .weight) where
-  weight-is : row-of l (path-at rows L) .weight ≡ w
-  weight-is = ap (λ (r : Row). r .weight) (row-in-path rows L below) ∙ sym read
-
   pub smaller-than-weight : d < w → d < row-of l (path-at rows L) .weight
-  smaller-than-weight small = rw weight-is small
+  smaller-than-weight small = rw (weight-read rows L below read) small
 
   pub split-smaller : d < w → split-if-smaller rows L l d ≡ split-lines rows (path-at rows L) l d 64
   unfolding split-if-smaller
@@ -24,4 +20,4 @@ module _ (rows : List ℕ) (L l d w : ℕ) (below : l < length (path-at rows L))
 
   pub split-not-smaller : w ≤ d → split-if-smaller rows L l d ≡ rows
   unfolding split-if-smaller
-  split-not-smaller large = rw (weight-is, le-ltb d w large)
+  split-not-smaller large = rw (weight-read rows L below read, le-ltb d w large)

@@ -5,7 +5,7 @@ use native.Mathlib.Omega.{arith}
 use native.Mathlib.Nat.{lt-of-lt-of-le}
 use mathlib.Core.Path.{_≡_, refl, ap}
 use mathlib.Core.Logic.{_⊎_, inl, inr}
-use mathlib.Core.Bool.{Bool, true, false, not, _&&_}
+use mathlib.Core.Bool.{Bool, true, false, not, _&&_, and-eq-true-iff}
 use borrow.Author.Tests.{not-true, not-false}
 use borrow.Author.Count.{below-none, below-more}
 use Rattle.tree.specs.Search.{all-below}
@@ -21,12 +21,7 @@ all-below-faulty n test h =
     let x = some-below-true n (λ j. not (test j)) (not-false _ h) in
     (x .0, x .1, not-true _ (x .2))
 
-pub both-true : (a b : Bool) → (a && b) ≡ true → (a ≡ true) × (b ≡ true)
-both-true true b h = (refl, h)
-both-true false true h = (h, refl)
-both-true false false h = (h, h)
-
-pub one-false : (a b : Bool) → (a && b) ≡ false → (a ≡ false) ⊎ (b ≡ false)
+one-false : (a b : Bool) → (a && b) ≡ false → (a ≡ false) ⊎ (b ≡ false)
 one-false true b h = inr h
 one-false false b h = inl refl
 
@@ -44,27 +39,31 @@ all-below-and n f g = go (all-below n (λ i. f i && g i)) refl
 
     go : (b : Bool) → all-below n (λ i. f i && g i) ≡ b → (all-below n f && all-below n g) ≡ all-below n (λ i. f i && g i)
     go true e =
-        let first = all-below-each n f (λ i below. both-true (f i) (g i) (all-below-at n _ e i below) .0) in
-        let second = all-below-each n g (λ i below. both-true (f i) (g i) (all-below-at n _ e i below) .1) in
+        let first = all-below-each n f (λ i below. and-eq-true-iff (f i) (g i) .0 (all-below-at n _ e i below) .0) in
+        let second = all-below-each n g (λ i below. and-eq-true-iff (f i) (g i) .0 (all-below-at n _ e i below) .1) in
         rw (first, second, e)
     go false e =
         let x = all-below-faulty n (λ i. f i && g i) e in
         rw e (fails (x .0) (x .1) (one-false (f (x .0)) (g (x .0)) (x .2)))
 
--- a loop has come to k, and every number below k passed the test
-pub record Tested (n : ℕ) (test : ℕ → Bool) (k : ℕ) : Type 0 where
+-- a loop has come to k, and the test gave b of every number below k
+pub record SoFar (b : Bool) (n : ℕ) (test : ℕ → Bool) (k : ℕ) : Type 0 where
   pub within : k ≤ n
-  pub passed : (i : ℕ) → i < k → test i ≡ true
+  pub gave : (i : ℕ) → i < k → test i ≡ b
 
-pub tested-none : (n : ℕ) (test : ℕ → Bool) → Tested n test 0
-tested-none n test = record { within = zero-le; passed = below-none (λ (i : ℕ). test i ≡ true) }
+pub so-far-none : {b : Bool} (n : ℕ) (test : ℕ → Bool) → SoFar b n test 0
+so-far-none {b} n test = record { within = zero-le; gave = below-none (λ (i : ℕ). test i ≡ b) }
+
+pub so-far-more : {b : Bool} {n : ℕ} {test : ℕ → Bool} {k : ℕ} → SoFar b n test k → k < n → test k ≡ b → SoFar b n test (k + 1)
+so-far-more {b} {test = test} {k = k} so-far below h = record { within = omega arith; gave = below-more (λ (i : ℕ). test i ≡ b) k (so-far .gave) h }
+
+-- every number below k passed
+abbrev pub Tested : ℕ → (ℕ → Bool) → ℕ → Type 0
+Tested n test k = SoFar true n test k
 
 module _ {n : ℕ} {test : ℕ → Bool} {k : ℕ} (tested : Tested n test k) where
-  pub tested-more : k < n → test k ≡ true → Tested n test (k + 1)
-  tested-more below h = record { within = omega arith; passed = below-more (λ (i : ℕ). test i ≡ true) k (tested .passed) h }
-
   pub tested-fault : k < n → test k ≡ false → all-below n test ≡ false
   tested-fault below h = all-below-fault n test k below h
 
   pub tested-all : n ≤ k → all-below n test ≡ true
-  tested-all past = all-below-each n test (λ i below. tested .passed i (lt-of-lt-of-le below past))
+  tested-all past = all-below-each n test (λ i below. tested .gave i (lt-of-lt-of-le below past))

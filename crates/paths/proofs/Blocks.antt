@@ -13,7 +13,7 @@ use Rattle.tree.specs.declared.Row.{Row}
 use Rattle.tree.specs.Asking.{rows-11}
 use Rattle.tree.specs.Record.{row-at, numbers}
 use Rattle.paths.specs.Rules.{row-of, set-line}
-use Rattle.paths.proofs.RowLaws.{row-in, row-in-numbers, numbers-length, rows-11-length, rows-11-row}
+use Rattle.paths.proofs.RowLaws.{row-in, row-in-numbers, same-by-rows, numbers-length, rows-11-length, rows-11-row}
 
 -- the 22 numbers of line L
 unfoldable pub block : List ℕ → ℕ → List ℕ
@@ -41,6 +41,12 @@ row-at-in-block rows L k within =
 pub row-at-of-block : (rows : List ℕ) (L : ℕ) (rs : List Row) → block rows L ≡ numbers (rows-11 rs) → (k : ℕ) → k < 11 → row-at rows L k ≡ row-of k rs
 row-at-of-block rows L rs here k within =
     row-at-in-block rows L k within ∙ ap (λ (b : List ℕ). row-in b k) here ∙ row-in-numbers (rows-11 rs) k ∙ rows-11-row rs k within
+
+-- and the rows are the block
+pub block-by-rows : (a b : List ℕ) (L : ℕ) → L < 64 → length a ≡ 1408 → length b ≡ 1408 → ((k : ℕ) → k < 11 → row-at a L k ≡ row-at b L k) → block a L ≡ block b L
+block-by-rows a b L below long-a long-b same =
+    same-by-rows 11 (block a L) (block b L) (block-length a L below long-a) (block-length b L below long-b)
+    (λ k within. sym (row-at-in-block a L k within) ∙ same k within ∙ row-at-in-block b L k within)
 
 -- Blocks of two lists joined
 

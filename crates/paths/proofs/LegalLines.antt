@@ -3,7 +3,7 @@
 use Prim.Native.Nat.{ℕ, _<_}
 use native.Mathlib.Omega.{arith}
 use mathlib.Core.Path.{_≡_, refl, sym, _∙_}
-use mathlib.Core.Bool.{Bool, true, false, _&&_, or-true, and-true, false≢true}
+use mathlib.Core.Bool.{Bool, true, false, _&&_, or-true, and-true, and-eq-true-iff, false≢true}
 use mathlib.Core.List.{List, [], _∷_}
 use lib.ListN.{length}
 use Rattle.tree.specs.declared.Row.{Row}
@@ -13,7 +13,7 @@ use Rattle.tree.specs.Record.{path-at, alone, rows-in-range, path-in-range, res
 use Rattle.paths.specs.declared.Checked.the-variants.{Rows, Fault}
 use Rattle.paths.specs.Answers.{path-checked, joins-earlier, line-legal}
 use Rattle.tree.proofs.Searching.{all-below-at, all-below-each}
-use Rattle.paths.proofs.AllBelow.{all-below-and, both-true}
+use Rattle.paths.proofs.AllBelow.{all-below-and}
 
 -- The record is a tree exactly where each line is right, by itself and beside the earlier ones.
 pub legal-by-lines : (rows : List ℕ) → legal rows ≡ all-below 64 (line-legal rows)
@@ -23,13 +23,13 @@ legal-by-lines rows = all-below-and 64 (λ L. path-in-range (path-at rows L) && 
 module _ (rows : List ℕ) (is-legal : legal rows ≡ true) (L : ℕ) (below : L < 64) where
   by-itself-and-beside : (path-in-range (path-at rows L) && rest-unused rows L ≡ true) × (joins-earlier rows L ≡ true)
   unfolding line-legal
-  by-itself-and-beside = both-true _ _ (all-below-at 64 (line-legal rows) (sym (legal-by-lines rows) ∙ is-legal) L below)
+  by-itself-and-beside = and-eq-true-iff _ _ .0 (all-below-at 64 (line-legal rows) (sym (legal-by-lines rows) ∙ is-legal) L below)
 
   pub legal-in-range : path-in-range (path-at rows L) ≡ true
-  legal-in-range = both-true (path-in-range (path-at rows L)) (rest-unused rows L) (by-itself-and-beside .0) .0
+  legal-in-range = and-eq-true-iff (path-in-range (path-at rows L)) (rest-unused rows L) .0 (by-itself-and-beside .0) .0
 
   pub legal-rest-unused : rest-unused rows L ≡ true
-  legal-rest-unused = both-true (path-in-range (path-at rows L)) (rest-unused rows L) (by-itself-and-beside .0) .1
+  legal-rest-unused = and-eq-true-iff (path-in-range (path-at rows L)) (rest-unused rows L) .0 (by-itself-and-beside .0) .1
 
   pub legal-together : (M : ℕ) → M < L → together (path-at rows M) (path-at rows L) ≡ true
   unfolding joins-earlier

@@ -3,10 +3,11 @@
 use Prim.Native.Nat.{ℕ, _+_, _<_, _≤_, zero-le}
 use native.Mathlib.Omega.{arith}
 use mathlib.Core.Path.{_≡_, refl, ap}
+use mathlib.Core.Bool.{true, false}
 use mathlib.Core.List.{List, [], _∷_}
 use lib.ListN.{length}
 use Rattle.tree.specs.declared.Row.{Row}
-use Rattle.tree.specs.Record.{row-at, path-at}
+use Rattle.tree.specs.Record.{row-at, path-at, no-rows}
 use Rattle.paths.specs.declared.Found.the-variants.{At, Nothing}
 use Rattle.paths.specs.Answers.{lookup}
 use Rattle.paths.proofs.PathRest.{path-rest, path-rest-start, path-rest-row, path-rest-end, path-rest-none}
@@ -42,3 +43,14 @@ pub lookup-open : (rs : List Row) → (length rs ≡ 0 → ⊥) → lookup rs �
 unfolding lookup
 lookup-open [] h = absurd (h refl)
 lookup-open (r ∷ rs) h = refl
+
+-- what the lookup says of the path
+pub lookup-nothing : (rs : List Row) → lookup rs ≡ Nothing → no-rows rs ≡ true
+unfolding lookup no-rows
+lookup-nothing [] h = refl
+lookup-nothing (r ∷ rs) h = let z : _≡_ {A = ℕ} 0 1 = cc in absurd (omega arith)
+
+pub lookup-at : (rs : List Row) (n : ℕ) → lookup rs ≡ At n → no-rows rs ≡ false
+unfolding lookup no-rows
+lookup-at [] n h = let z : _≡_ {A = ℕ} 0 1 = cc in absurd (omega arith)
+lookup-at (r ∷ rs) n h = refl

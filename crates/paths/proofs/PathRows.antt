@@ -7,6 +7,7 @@ use mathlib.Core.Path.{_≡_, refl, sym, _∙_, ap}
 use mathlib.Core.List.{List, _∷_}
 use lib.ListN.{length, drop, length-drop}
 use lib.Seq.{drop-drop, getD-drop}
+use Rattle.tree.specs.declared.Row.{Row}
 use Rattle.tree.specs.Tree.{row}
 use Rattle.tree.specs.Record.{row-at, path-at}
 use Rattle.paths.specs.Rules.{row-of}
@@ -47,3 +48,7 @@ module _ (rows : List ℕ) (L : ℕ) where
     row-in-path =
         let here : k + 0 ≡ k = omega arith in
         sym (rw here at (getD-drop k (path-at rows L) 0 (row 0 0))) ∙ rw (rest-of-path, row-left)
+
+    -- w was read as its weight
+    pub weight-read : {w : ℕ} → w ≡ row-at rows L k .weight → row-of k (path-at rows L) .weight ≡ w
+    weight-read read = ap (λ (r : Row). r .weight) row-in-path ∙ sym read

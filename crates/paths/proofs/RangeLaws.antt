@@ -4,7 +4,7 @@ use Prim.Native.Nat.{ℕ, _<_, _≤_}
 use native.Mathlib.Omega.{arith}
 use mathlib.Core.Path.{_≡_, refl, sym, ap₂, subst}
 use mathlib.Core.Logic.{_⊎_, inl, inr}
-use mathlib.Core.Bool.{Bool, true, false, _||_, false≢true}
+use mathlib.Core.Bool.{Bool, true, false, _||_, false≢true, and-eq-true-iff}
 use mathlib.Core.List.{List, [], _∷_}
 use lib.Dec.{eqb, ltb, leb}
 use borrow.Author.Tests.{eqb-true, ltb-true, leb-true}
@@ -13,7 +13,6 @@ use Rattle.tree.specs.Tree.{row, product, sum-from, sum}
 use Rattle.tree.specs.Record.{rows-in-range, alone, path-in-range}
 use Rattle.tree.proofs.Digits.{digits-below}
 use Rattle.tree.proofs.Standing.{sum-row}
-use Rattle.paths.proofs.AllBelow.{both-true}
 
 -- A path in range is that of a line with a root of weight 1 to itself, or its rows are in range
 
@@ -25,7 +24,7 @@ alone-row : (rs : List Row) → alone rs ≡ true → rs ≡ row 1 0 ∷ []
 unfolding alone
 alone-row [] h = absurd (false≢true h)
 alone-row (r ∷ []) h =
-    let both = both-true (eqb (r .weight) 1) (eqb (r .edge) 0) h in
+    let both = and-eq-true-iff (eqb (r .weight) 1) (eqb (r .edge) 0) .0 h in
     ap₂ (λ (w e : ℕ). row w e ∷ []) (eqb-true _ _ (both .0)) (eqb-true _ _ (both .1))
 alone-row (r ∷ s ∷ rs) h = absurd (false≢true h)
 
@@ -33,20 +32,20 @@ module _ (rs : List Row) (in-range : path-in-range rs ≡ true) where
   pub alone-or-in-range : (rs ≡ row 1 0 ∷ []) ⊎ (rows-in-range rs ≡ true)
   unfolding path-in-range
   alone-or-in-range =
-      elim (either-true (alone rs) (rows-in-range rs) (both-true (alone rs || rows-in-range rs) (leb (product rs) 4095) in-range .0)) [
+      elim (either-true (alone rs) (rows-in-range rs) (and-eq-true-iff (alone rs || rows-in-range rs) (leb (product rs) 4095) .0 in-range .0)) [
         | inl h ↦ inl (alone-row rs h)
         | inr h ↦ inr h
       ]
 
   pub period-in-range : product rs ≤ 4095
   unfolding path-in-range
-  period-in-range = leb-true _ _ (both-true (alone rs || rows-in-range rs) (leb (product rs) 4095) in-range .1)
+  period-in-range = leb-true _ _ (and-eq-true-iff (alone rs || rows-in-range rs) (leb (product rs) 4095) .0 in-range .1)
 
 pub row-in-range : (r : Row) (rs : List Row) → rows-in-range (r ∷ rs) ≡ true → (2 ≤ r .weight) × (r .edge < r .weight) × (rows-in-range rs ≡ true)
 unfolding rows-in-range
 row-in-range r rs h =
-    let both = both-true (leb 2 (r .weight)) _ h in
-    let rest = both-true (ltb (r .edge) (r .weight)) _ (both .1) in
+    let both = and-eq-true-iff (leb 2 (r .weight)) _ .0 h in
+    let rest = and-eq-true-iff (ltb (r .edge) (r .weight)) _ .0 (both .1) in
     (leb-true _ _ (both .0), ltb-true _ _ (rest .0), rest .1)
 
 -- Each edge is below its weight

@@ -3,8 +3,8 @@
 use Prim.Native.Nat.{ℕ, zero, suc, _+_, _*_, _≤_, _<_}
 use native.Mathlib.Omega.{arith}
 use native.Mathlib.Decide.{decLt}
-use mathlib.Core.Path.{_≡_, refl, sym, ap₂, _∙_}
-use mathlib.Core.Bool.{true, false, true≢false, false≢true}
+use mathlib.Core.Path.{_≡_, refl, sym, ap, ap₂, _∙_}
+use mathlib.Core.Bool.{true, false, true≢false, false≢true, and-eq-true-iff}
 use mathlib.Core.List.{List, [], _∷_, _++_}
 use lib.Dec.{eqb}
 use lib.ListN.{length, getD, replicate, length-append, List·getD-eq-default}
@@ -16,7 +16,6 @@ use Rattle.tree.specs.Asking.{rows-11}
 use Rattle.tree.specs.Record.{row-at, path-at, unused, rest-unused, no-rows, numbers}
 use Rattle.tree.proofs.Searching.{all-below-at}
 use Rattle.paths.specs.Rules.{row-of}
-use Rattle.paths.proofs.AllBelow.{both-true}
 use Rattle.paths.proofs.PathRows.{row-in-path}
 use Rattle.paths.proofs.UnusedRows.{row-right}
 
@@ -27,10 +26,10 @@ unfolding no-rows
 some-rows [] h = absurd (true≢false h)
 some-rows (r ∷ rs) h = omega arith
 
-pub no-rows-length : (rs : List Row) → no-rows rs ≡ true → length rs ≡ 0
+pub no-rows-empty : (rs : List Row) → no-rows rs ≡ true → rs ≡ []
 unfolding no-rows
-no-rows-length [] h = refl
-no-rows-length (r ∷ rs) h = absurd (false≢true h)
+no-rows-empty [] h = refl
+no-rows-empty (r ∷ rs) h = absurd (false≢true h)
 
 -- Rows and the list of their numbers, each from the other
 
@@ -57,17 +56,21 @@ numbers-length [] = refl
 numbers-length (r ∷ rs) = omega (arith, numbers-length rs)
 
 -- the rows say all the numbers
-pub numbers-by-rows : (xs : List ℕ) (qs : List Row) → length xs ≡ 2 * length qs → ((k : ℕ) → k < length qs → row-in xs k ≡ row-of k qs) → xs ≡ numbers qs
-unfolding numbers row-of row-in
-numbers-by-rows [] [] long same = refl
-numbers-by-rows [] (q ∷ qs) long same = absurd (omega arith)
-numbers-by-rows (a ∷ []) [] long same = absurd (omega arith)
-numbers-by-rows (a ∷ []) (q ∷ qs) long same = absurd (omega arith)
-numbers-by-rows (a ∷ b ∷ xs) [] long same = absurd (omega arith)
-numbers-by-rows (a ∷ b ∷ xs) (q ∷ qs) long same =
+pub same-by-rows : (n : ℕ) (xs ys : List ℕ) → length xs ≡ 2 * n → length ys ≡ 2 * n → ((k : ℕ) → k < n → row-in xs k ≡ row-in ys k) → xs ≡ ys
+unfolding row-in
+same-by-rows zero [] [] long-xs long-ys same = refl
+same-by-rows (suc n) (a ∷ b ∷ xs) (c ∷ d ∷ ys) long-xs long-ys same =
     let here = same 0 (omega arith) in
-    let rest = numbers-by-rows xs qs (omega arith) (λ k below. sym (row-in-later a b xs k) ∙ same (suc k) (omega arith)) in
+    let weights : a ≡ c = ap (λ (r : Row). r .weight) here in
+    let edges : b ≡ d = ap (λ (r : Row). r .edge) here in
+    let rest = same-by-rows n xs ys (omega arith) (omega arith) (λ k below. sym (row-in-later a b xs k) ∙ same (suc k) (omega arith) ∙ row-in-later c d ys k) in
     cc
+same-by-rows zero (a ∷ xs) ys long-xs long-ys same = absurd (omega arith)
+same-by-rows zero [] (c ∷ ys) long-xs long-ys same = absurd (omega arith)
+same-by-rows (suc n) [] ys long-xs long-ys same = absurd (omega arith)
+same-by-rows (suc n) (a ∷ []) ys long-xs long-ys same = absurd (omega arith)
+same-by-rows (suc n) (a ∷ b ∷ xs) [] long-xs long-ys same = absurd (omega arith)
+same-by-rows (suc n) (a ∷ b ∷ xs) (c ∷ []) long-xs long-ys same = absurd (omega arith)
 
 -- The 11 rows of a path
 
@@ -97,7 +100,7 @@ rows-11-row rs k within = getD-take 11 (rs ++ replicate 11 (row 0 0)) k (row 0 0
 unused-row : (r : Row) → unused r ≡ true → r ≡ row 0 0
 unfolding unused
 unused-row r h =
-    let both = both-true (eqb (r .weight) 0) (eqb (r .edge) 0) h in
+    let both = and-eq-true-iff (eqb (r .weight) 0) (eqb (r .edge) 0) .0 h in
     ap₂ row (eqb-true _ _ (both .0)) (eqb-true _ _ (both .1))
 
 -- where the rest is unused, the line's rows are the path's and then unused ones

@@ -5,15 +5,14 @@ use native.Mathlib.Omega.{arith}
 use native.Mathlib.Nat.{sub-zero, zero-lt-suc}
 use mathlib.Core.Path.{_≡_, refl, sym, _∙_, ap, subst}
 use mathlib.Core.Logic.{_⊎_, inl, inr}
-use mathlib.Core.Bool.{Bool, true, false, not, _&&_, false≢true}
+use mathlib.Core.Bool.{Bool, true, false, not, _&&_, false≢true, and-eq-true-iff}
 use mathlib.Core.List.{List, [], _∷_}
 use lib.Dec.{eqb}
 use lib.ListN.{length}
-use borrow.Author.Tests.{eq-eqb, ne-eqb}
+use borrow.Author.Tests.{eqb-true, eq-eqb, ne-eqb}
 use Rattle.tree.specs.declared.Row.{Row}
 use Rattle.tree.specs.Record.{row-at, path-at}
 use Rattle.paths.specs.Rules.{row-of, same-node}
-use Rattle.paths.proofs.AllBelow.{both-true}
 use Rattle.paths.proofs.PathRest.{zero-or-not, path-rest, path-rest-start, path-rest-row, path-rest-end}
 use Rattle.paths.proofs.PathRows.{row-in-path}
 
@@ -34,8 +33,28 @@ same-node-goes-on l [] qs h = absurd (false≢true h)
 same-node-goes-on l (p ∷ ps) [] h = absurd (false≢true h)
 same-node-goes-on zero (p ∷ ps) (q ∷ qs) h = (zero-lt-suc (length ps), zero-lt-suc (length qs))
 same-node-goes-on (suc l) (p ∷ ps) (q ∷ qs) h =
-    let later = same-node-goes-on l ps qs (both-true (eqb (p .edge) (q .edge)) (same-node l ps qs) h .1) in
+    let later = same-node-goes-on l ps qs (and-eq-true-iff (eqb (p .edge) (q .edge)) (same-node l ps qs) .0 h .1) in
     omega arith
+
+-- where the edges above the level are the same and both paths go on, the node is the same
+pub same-node-by-edges : (l : ℕ) (ps qs : List Row) → l < length ps → l < length qs → ((k : ℕ) → k < l → row-of k ps .edge ≡ row-of k qs .edge) → same-node l ps qs ≡ true
+unfolding same-node row-of
+same-node-by-edges l [] qs h t same = absurd (omega arith)
+same-node-by-edges l (p ∷ ps) [] h t same = absurd (omega arith)
+same-node-by-edges zero (p ∷ ps) (q ∷ qs) h t same = refl
+same-node-by-edges (suc l) (p ∷ ps) (q ∷ qs) h t same =
+    rw (eq-eqb _ _ (same 0 (omega arith))) (same-node-by-edges l ps qs (omega arith) (omega arith) (λ k below. same (suc k) (omega arith)))
+
+-- of two paths through one node, a further path goes through that of the one exactly where it goes through that of the other
+pub same-node-either : (l : ℕ) (ps qs : List Row) → same-node l ps qs ≡ true → (rs : List Row) → same-node l ps rs ≡ same-node l qs rs
+unfolding same-node
+same-node-either l [] qs h rs = absurd (false≢true h)
+same-node-either l (p ∷ ps) [] h rs = absurd (false≢true h)
+same-node-either l (p ∷ ps) (q ∷ qs) h [] = refl
+same-node-either zero (p ∷ ps) (q ∷ qs) h (r ∷ rs) = refl
+same-node-either (suc l) (p ∷ ps) (q ∷ qs) h (r ∷ rs) =
+    let both = and-eq-true-iff (eqb (p .edge) (q .edge)) (same-node l ps qs) .0 h in
+    rw (eqb-true (p .edge) (q .edge) (both .0), same-node-either l ps qs (both .1) rs)
 
 -- d was read as line N's edge in row l: a test of the edge that N takes at the node is one of d
 pub edge-read : (rows : List ℕ) (ps : List Row) (l N : ℕ) {d : ℕ} → d ≡ row-at rows N l .edge → (test : ℕ → Bool) →

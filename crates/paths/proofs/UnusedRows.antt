@@ -12,7 +12,7 @@ use lib.ListN.{length}
 use borrow.Author.Tests.{lt-ltb, le-ltb, eq-eqb, ne-eqb}
 use Rattle.tree.specs.declared.Row.{Row}
 use Rattle.tree.specs.Record.{row-at, path-at, unused, rest-unused}
-use Rattle.paths.proofs.AllBelow.{Tested, tested-more, tested-fault, tested-all}
+use Rattle.paths.proofs.AllBelow.{so-far-more, Tested, tested-fault, tested-all}
 use Rattle.paths.proofs.PathRest.{path-length-at-most-11}
 
 -- a row is not used exactly where the sum of its numbers is 0
@@ -42,7 +42,7 @@ unused-start rows L {k} e = record {
   past-path = omega arith;
   tested = record {
     within = omega (arith, path-length-at-most-11 rows L);
-    passed = λ i below. let h : i < length (path-at rows L) = omega arith in rw (lt-ltb _ _ h);
+    gave = λ i below. let h : i < length (path-at rows L) = omega arith in rw (lt-ltb _ _ h);
   };
 }
 
@@ -63,7 +63,7 @@ module _ {rows : List ℕ} {L k : ℕ} (unused-to : Unused rows L k) where
     pub unused-more : s ≡ 0 → Unused rows L (k + 1)
     unused-more h = record {
       past-path = omega (arith, unused-to .past-path);
-      tested = tested-more (unused-to .tested) below (rw (not-in-path, sum-unused (row-at rows L k) (sym read ∙ h)));
+      tested = so-far-more (unused-to .tested) below (rw (not-in-path, sum-unused (row-at rows L k) (sym read ∙ h)));
     }
 
 -- The invariant of `closed_unused`'s loop: the sum of the rows passed is 0, and then all of them are 0 and 0, or one of them is used.

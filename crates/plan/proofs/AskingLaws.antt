@@ -16,8 +16,8 @@ use Rattle.tree.specs.Calls.{gives, refuses, show-outcome, turns-outcome}
 use Rattle.tree.specs.Record.{path-at, no-rows, legal, treeOf}
 use Rattle.paths.specs.declared.Found.the-variants.{At, Nothing}
 use Rattle.paths.specs.Answers.{lookup}
+use Rattle.paths.proofs.PathLength.{lookup-nothing, lookup-at}
 use Rattle.paths.proofs.PathRest.{path-rest-start, path-rest-product}
-use Rattle.lines.proofs.CloseLine.{lookup-nothing, lookup-at}
 use Rattle.bridge.specs.Rows.{tree-of}
 use Rattle.bridge.proofs.AskingRecords.{shown-refused-1, shown-refused-4, shown-on-illegal, shown-on-record, turns-refused-1, turns-refused-4, turns-on-illegal, turns-on-record}
 use Rattle.plan.specs.declared.ask.ShowAnswer.the-variants.{Times, Refused}

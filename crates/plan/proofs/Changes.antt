@@ -1,6 +1,6 @@
 -- The ways that open and close can go on a plan record: it is a tree, or it is none and counts as the empty plan.
 -- Assumes nothing.
-use Prim.Native.Nat.{ℕ, _<_, _≤_}
+use Prim.Native.Nat.{ℕ, _≤_}
 use native.Mathlib.Omega.{arith}
 use mathlib.Core.Path.{_≡_, refl, sym, _∙_, ap}
 use mathlib.Core.Bool.{true, false}
@@ -14,10 +14,11 @@ use Rattle.tree.specs.Shape.{Legal}
 use Rattle.tree.specs.Asking.{rows-11}
 use Rattle.tree.specs.Calls.{Call, open-line, close-line, Answer, booked, refused, refusal, reply, carried-out, answer-unless, answer}
 use Rattle.tree.specs.Record.{legal, treeOf, numbers, numbers-below, recordOf}
-use Rattle.tree.proofs.Checks.{line-refused-1, line-refused-4}
+use Rattle.tree.proofs.Checks.{line-refused-4}
 use Rattle.bridge.specs.Rows.{tree-of, rows-unless, rows-after, CarriedOut}
 use Rattle.bridge.proofs.TreeOfRecord.{treeOf-illegal}
 use Rattle.bridge.proofs.RecordRoundTrip.{record-legal, record-has-tree}
+use Rattle.bridge.proofs.CallsOnRecords.{refused-on}
 use Rattle.tree.specs.declared.Start.{Start}
 use Rattle.lines.specs.declared.OpenAnswer.{OpenAnswer}
 use Rattle.lines.specs.declared.OpenAnswer.the-variants.{Booked, Refused}
@@ -98,17 +99,9 @@ module _ (rows : List ℕ) (not-legal : legal rows ≡ false) where
       by-refusal (some m) e = refl
       by-refusal none e = absurd (reply-not-refused c (tree-of rows) n (sym e))
 
-  refused-as-found : (c : Call) (n : ℕ) → refusal c (tree-of rows) ≡ some n → CarriedOut c rows rows (refused n)
-  unfolding answer answer-unless rows-after rows-unless
-  refused-as-found c n h = record { answer-is = rw h; rows-are = rw h }
-
-  pub close-none-above : (L : ℕ) → 63 < L → CarriedOut (close-line L) rows rows (refused 1)
-  unfolding refusal
-  close-none-above L above = refused-as-found (close-line L) 1 (line-refused-1 L (tree-of rows) above)
-
   pub close-none : (L : ℕ) → L ≤ 63 → CarriedOut (close-line L) rows rows (refused 4)
   unfolding refusal is-open path found
-  close-none L number = refused-as-found (close-line L) 4 (line-refused-4 L (tree-of rows) number (ap (is-open L) no-tree))
+  close-none L number = refused-on (close-line L) rows 4 (line-refused-4 L (tree-of rows) number (ap (is-open L) no-tree))
 
   -- an open that was made in the empty plan instead
   module _ (L p : ℕ) (e : Plan) (after : List ℕ) (a : OpenAnswer) (empty : e ≡ empty-plan) (h : CarriedOut (open-line L p) (e .rows) after (open-answer a)) where

@@ -14,7 +14,7 @@ use Rattle.tree.specs.Standing.{UnderEdge, Stands}
 use Rattle.tree.specs.Shape.{Edges, LegalUnder}
 use Rattle.tree.specs.Opening.{free, group, split, put, one-edge, newcomer}
 use Rattle.tree.proofs.Digits.{digit-high, digits-of}
-use Rattle.tree.proofs.Put.{put-same, put-other, put-each, InPut, NotInPut, put-stands, stands-put-same, stands-put-other, one-edge-stands, stands-one-edge}
+use Rattle.tree.proofs.Put.{put-same, put-other, put-each, InPut, NotInPut, put-stands, stands-put-same, stands-put-other, one-edge-stands, stands-one-edge, under-put-edge}
 use Rattle.tree.proofs.Searching.{some-below-true, some-below-at}
 use Rattle.tree.proofs.Proper.{nothing-open, one-edge-edges}
 use Rattle.tree.proofs.Classes.{free-absent, taken-present, beyond-free}
@@ -76,16 +76,7 @@ module _ (L d q w : ℕ) (f : ℕ → Tree) (i : ℕ) (room : Room d q w f i) wh
   stands-with-line K p u h =
       let x = class-in-split K d w f (room .weight-positive) (room .divides-weight) p u (room .divisor-positive) h in
       stands-put-other K d i (newcomer L q) (split d w f) p u (record {
-        in-node =
-            record {
-              edge = h .edge % d;
-              period = x .period;
-              start = x .start;
-              edge-below = x .edge-below;
-              stands = x .stands;
-              period-is = x .period-is;
-              start-is = x .start-is;
-            };
+        in-node = under-put-edge x (x .stands);
         other-edge = not-in-class K p u h;
       })
 

@@ -18,7 +18,7 @@ use Rattle.tree.specs.Opening.{divisor, free, free-class, candidate, put
 use Rattle.tree.proofs.Digits.{digits-of}
 use Rattle.tree.proofs.Divisors.{divides-true, gcd-divides-left, gcd-divides-right, gcd-positive}
 use Rattle.tree.proofs.Searching.{found-some, smallest-some, some-below-at}
-use Rattle.tree.proofs.Put.{InPut, NotInPut, put-stands, stands-put-same, stands-put-keeps, put-same, put-other, put-each}
+use Rattle.tree.proofs.Put.{InPut, NotInPut, put-stands, stands-put-same, stands-put-keeps, put-same, put-other, put-each, under-put-edge}
 use Rattle.tree.proofs.Proper.{Proper}
 use Rattle.tree.proofs.Standing.{stands-open, open-stands, not-open-below}
 use Rattle.tree.proofs.Booking.{Room, stands-with-line, new-line-stands, with-line-stands, with-line-legal}
@@ -229,16 +229,7 @@ module _ (L p i : ℕ) where
   old-or-new-below m w f l r K q u t below h = go (put-stands K w (r % w) t f q u h)
     where
       inside : (x : InPut K w (r % w) t q u) → OldOrNew (m * w) l (r / w) (f (r % w)) K (x .period) (x .start) → OldOrNew m (suc l) r (node w f) K q u
-      inside x (inl old) =
-          inl (record {
-            edge = r % w;
-            period = x .period;
-            start = x .start;
-            edge-below = x .edge-below;
-            stands = old;
-            period-is = x .period-is;
-            start-is = x .start-is;
-          })
+      inside x (inl old) = inl (under-put-edge x old)
       inside x (inr new) =
           inr (
             new .0,

@@ -37,6 +37,19 @@ pub record InPut (K w i : ℕ) (t : Tree) (q u : ℕ) : Type 0 where
   pub period-is : q ≡ w * period
   pub start-is : u ≡ i + w * start
 
+-- something under that edge, with the same period and start
+abbrev pub under-put-edge : {K w i : ℕ} {t : Tree} {q u : ℕ} {S : ℕ → ℕ → ℕ → Type 0} (x : InPut K w i t q u) → S i (x .period) (x .start) → UnderEdge w q u S
+under-put-edge {i = i} x h =
+    record {
+      edge = i;
+      period = x .period;
+      start = x .start;
+      edge-below = x .edge-below;
+      stands = h;
+      period-is = x .period-is;
+      start-is = x .start-is;
+    }
+
 -- line K stands in the node, under another edge than i
 pub record NotInPut (K w i : ℕ) (f : ℕ → Tree) (q u : ℕ) : Type 0 where
   pub in-node : UnderEdge w q u (λ e p s. Stands K (f e) p s)
@@ -63,16 +76,7 @@ module _ (K w i : ℕ) (t : Tree) (f : ℕ → Tree) (q u : ℕ) where
 
   pub stands-put-same : InPut K w i t q u → Stands K (node w (put i t f)) q u
   unfolding Stands
-  stands-put-same h =
-      record {
-        edge = i;
-        period = h .period;
-        start = h .start;
-        edge-below = h .edge-below;
-        stands = rw (put-same i i t f refl) (h .stands);
-        period-is = h .period-is;
-        start-is = h .start-is;
-      }
+  stands-put-same h = under-put-edge h (rw (put-same i i t f refl) (h .stands))
 
   pub stands-put-other : NotInPut K w i f q u → Stands K (node w (put i t f)) q u
   unfolding Stands

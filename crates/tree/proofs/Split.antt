@@ -13,7 +13,7 @@ use Rattle.tree.specs.Tree.{Tree, nothing, node}
 use Rattle.tree.specs.Standing.{UnderEdge, Stands}
 use Rattle.tree.specs.Opening.{free, group, split}
 use Rattle.tree.proofs.Digits.{digit-low, digits-below, digits-of}
-use Rattle.tree.proofs.Put.{InPut}
+use Rattle.tree.proofs.Put.{InPut, under-put-edge}
 use Rattle.tree.proofs.Classes.{present-taken}
 use Rattle.tree.proofs.UnderEdge.{stands-present}
 
@@ -169,12 +169,4 @@ module _ (K d w : ℕ) (f : ℕ → Tree) (weight-positive : 0 < w) (divides : d
         resplit : Stands K (node w f) q u → Stands K (node d (split d w f)) q u
         resplit h =
             let x = class-in-split h in
-            record {
-              edge = h .edge % d;
-              period = x .period;
-              start = x .start;
-              edge-below = x .edge-below;
-              stands = x .stands;
-              period-is = x .period-is;
-              start-is = x .start-is;
-            }
+            under-put-edge x (x .stands)

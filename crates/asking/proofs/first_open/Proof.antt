@@ -5,7 +5,8 @@ use mathlib.Core.Path.{sym, _∙_, ap}
 use mathlib.Core.Bool.{not}
 use borrow.Author.Needs.{needs}
 use Rattle.tree.specs.Record.{path-at, no-rows}
-use Rattle.paths.proofs.NoneBelow.{NoneBelow, none-below-start, none-below-more, smallest-nowhere, smallest-here}
+use Rattle.paths.proofs.AllBelow.{so-far-none, so-far-more}
+use Rattle.paths.proofs.NoneBelow.{NoneBelow, smallest-nowhere, smallest-here}
 use Rattle.asking.specs.Answers.{first-open}
 use Rattle.asking.proofs.first_open.Statement.{statement}
 use Rattle.asking.proofs.first_open.Tie as tie
@@ -17,7 +18,7 @@ abbrev μ-loop : tie.MeasureT-loop
 μ-loop rows line₀ line = 64 - line
 
 loop-holds : tie.Need-loop-holds Inv-loop μ-loop
-loop-holds c = none-below-start _ _
+loop-holds c = so-far-none _ _
 
 is-closed-requires : tie.Need-is-closed-requires Inv-loop μ-loop
 is-closed-requires c κs = search needs
@@ -37,7 +38,7 @@ loop-less c = search needs
 loop-again : tie.Need-loop-again Inv-loop μ-loop
 loop-again c =
     let in-loop = c .before .before in
-    none-below-more (in-loop .before .loop .inv) (in-loop .loop-test .taken) (ap not (sym (c .before .is-closed .ensures)) ∙ c .if1 .left)
+    so-far-more (in-loop .before .loop .inv) (in-loop .loop-test .taken) (ap not (sym (c .before .is-closed .ensures)) ∙ c .if1 .left)
 
 returns-2 : tie.Need-returns-2 Inv-loop μ-loop
 unfolding first-open

@@ -5,7 +5,8 @@ use mathlib.Core.Path.{sym, _∙_}
 use borrow.Author.Needs.{needs}
 use Rattle.tree.specs.Record.{path-at}
 use Rattle.paths.specs.Rules.{line-under}
-use Rattle.paths.proofs.NoneBelow.{NoneBelow, none-below-start, none-below-more, smallest-nowhere, smallest-here}
+use Rattle.paths.proofs.AllBelow.{so-far-none, so-far-more}
+use Rattle.paths.proofs.NoneBelow.{NoneBelow, smallest-nowhere, smallest-here}
 use Rattle.asking.specs.Answers.{takes-edge}
 use Rattle.asking.proofs.line_under.Statement.{statement}
 use Rattle.asking.proofs.line_under.Tie as tie
@@ -17,7 +18,7 @@ abbrev μ-loop : tie.MeasureT-loop
 μ-loop rows line level edge other₀ other = 64 - other
 
 loop-holds : tie.Need-loop-holds Inv-loop μ-loop
-loop-holds c = none-below-start _ _
+loop-holds c = so-far-none _ _
 
 takes-edge-requires : tie.Need-takes-edge-requires Inv-loop μ-loop
 takes-edge-requires c κs = search needs
@@ -37,7 +38,7 @@ loop-less c = search needs
 loop-again : tie.Need-loop-again Inv-loop μ-loop
 loop-again c =
     let in-loop = c .before .before in
-    none-below-more (in-loop .before .loop .inv) (in-loop .loop-test .taken) (sym (c .before .takes-edge .ensures) ∙ c .if1 .left)
+    so-far-more (in-loop .before .loop .inv) (in-loop .loop-test .taken) (sym (c .before .takes-edge .ensures) ∙ c .if1 .left)
 
 returns-2 : tie.Need-returns-2 Inv-loop μ-loop
 unfolding line-under takes-edge

@@ -6,8 +6,8 @@ use mathlib.Core.Path.{sym}
 use mathlib.Core.Logic.{⊎-elim}
 use native.Mathlib.Omega.{arith}
 use borrow.Author.Needs.{needs}
+use Rattle.paths.proofs.AllBelow.{so-far-none}
 use Rattle.candidates.specs.Answers.{class-of}
-use Rattle.paths.proofs.NoneBelow.{none-below-start}
 use Rattle.candidates.proofs.FreeClass.{Classes, Lines, lines-start, other-class, other-node, class-passed, class-free, no-class-free}
 use Rattle.candidates.proofs.free_class.Statement.{statement}
 use Rattle.candidates.proofs.free_class.Tie as tie
@@ -25,7 +25,7 @@ abbrev μ-classes : tie.MeasureT-classes
 μ-classes rows line level d class₀ class = d - class
 
 classes-holds : tie.Need-classes-holds Inv-loop μ-loop Inv-classes μ-classes
-classes-holds c = none-below-start _ _
+classes-holds c = so-far-none _ _
 
 loop-holds : tie.Need-loop-holds Inv-loop μ-loop Inv-classes μ-classes
 loop-holds c = lines-start _ _ _ _ _

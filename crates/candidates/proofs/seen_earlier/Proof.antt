@@ -3,7 +3,7 @@
 use Prim.Native.Nat.{_-_}
 use mathlib.Core.Path.{sym}
 use borrow.Author.Needs.{needs}
-use Rattle.paths.proofs.NoneBelow.{none-below-start}
+use Rattle.paths.proofs.AllBelow.{so-far-none}
 use Rattle.candidates.proofs.SeenEarlier.{Unseen, unseen-more, seen-there, unseen-all}
 use Rattle.candidates.proofs.seen_earlier.Statement.{statement}
 use Rattle.candidates.proofs.seen_earlier.Tie as tie
@@ -15,7 +15,7 @@ abbrev μ-loop : tie.MeasureT-loop
 μ-loop rows line level earlier₀ earlier = line - earlier
 
 loop-holds : tie.Need-loop-holds Inv-loop μ-loop
-loop-holds c = none-below-start _ _
+loop-holds c = so-far-none _ _
 
 same-node-requires : tie.Need-same-node-requires Inv-loop μ-loop
 same-node-requires c κs = search needs

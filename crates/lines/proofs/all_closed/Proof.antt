@@ -6,7 +6,7 @@ use mathlib.Core.Path.{sym, _∙_}
 use borrow.Author.Needs.{needs}
 use borrow.Author.Tests.{not-true, not-false}
 use Rattle.tree.specs.Record.{path-at, no-rows}
-use Rattle.paths.proofs.AllBelow.{Tested, tested-none, tested-more, tested-fault, tested-all}
+use Rattle.paths.proofs.AllBelow.{so-far-none, so-far-more, Tested, tested-fault, tested-all}
 use Rattle.lines.proofs.all_closed.Statement.{statement}
 use Rattle.lines.proofs.all_closed.Tie as tie
 
@@ -17,7 +17,7 @@ abbrev μ-loop : tie.MeasureT-loop
 μ-loop rows line₀ line = 64 - line
 
 loop-holds : tie.Need-loop-holds Inv-loop μ-loop
-loop-holds c = tested-none _ _
+loop-holds c = so-far-none _ _
 
 is-closed-requires : tie.Need-is-closed-requires Inv-loop μ-loop
 is-closed-requires c κs = search needs
@@ -36,7 +36,7 @@ loop-less c = search needs
 loop-again : tie.Need-loop-again Inv-loop μ-loop
 loop-again c =
     let in-loop = c .before .before in
-    tested-more (in-loop .before .loop .inv) (omega arith) (sym (c .before .is-closed .ensures) ∙ not-false _ (c .if1 .left))
+    so-far-more (in-loop .before .loop .inv) (omega arith) (sym (c .before .is-closed .ensures) ∙ not-false _ (c .if1 .left))
 
 returns-2 : tie.Need-returns-2 Inv-loop μ-loop
 returns-2 c = sym (tested-all (c .before .loop .inv) (omega arith))

@@ -28,9 +28,8 @@ unfolding close-answer
 returns-2 c =
     let after-find = c .before .before in
     let in-range = after-find .before .before in
-    let after-whole = in-range .before in
-    let at-start = after-whole .before .before in
-    close-absent (at-start .args .rows .now) (at-start .args .line) (at-start .pre) (after-whole .whole .ensures) (in-range .if1 .left) (sym (after-find .find .ensures) ∙ c .enum-told2 .given .1)
+    let at-start = in-range .before .before .before in
+    close-absent (at-start .args .rows .now) (at-start .args .line) (at-start .pre) (in-range .if1 .left) (sym (after-find .find .ensures) ∙ c .enum-told2 .given .1)
 
 clear-line-requires : tie.Need-clear-line-requires
 clear-line-requires c κs = search needs

@@ -44,9 +44,8 @@ returns-4 c =
     let period-right = looked .before .before in
     let not-zero = period-right .before in
     let in-range = not-zero .before in
-    let after-whole = in-range .before in
-    let at-start = after-whole .before .before in
-    open-again (at-start .args .rows .now) (at-start .args .line) (at-start .args .period) (at-start .pre) (after-whole .whole .ensures) (in-range .if1 .left)
+    let at-start = in-range .before .before .before in
+    open-again (at-start .args .rows .now) (at-start .args .line) (at-start .args .period) (at-start .pre) (in-range .if1 .left)
     (period-in-range (at-start .args .period) (omega (arith, not-zero .if2 .left)) (period-right .if3 .left))
     (sym (looked .is-closed .ensures) ∙ not-true _ (c .if4 .taken))
 

@@ -2,11 +2,12 @@
 -- Assumes nothing.
 use Prim.Native.Nat.{_-_}
 use native.Mathlib.Omega.{arith}
-use mathlib.Core.Path.{sym}
+use mathlib.Core.Path.{sym, ap}
+use lib.ListN.{length}
 use borrow.Author.Needs.{needs}
 use denote.Ref.{now}
 use Rattle.tree.specs.Record.{path-at}
-use Rattle.paths.proofs.RowLaws.{no-rows-length}
+use Rattle.paths.proofs.RowLaws.{no-rows-empty}
 use Rattle.paths.proofs.UnusedRows.{Summed, summed-none, summed-more, summed-all}
 use Rattle.paths.proofs.closed_unused.Statement.{statement}
 use Rattle.paths.proofs.closed_unused.Tie as tie
@@ -18,7 +19,7 @@ abbrev μ-loop : tie.MeasureT-loop
 μ-loop rows line sum₀ k₀ sum k = 11 - k
 
 loop-holds : tie.Need-loop-holds Inv-loop μ-loop
-loop-holds c = summed-none _ _ (no-rows-length (path-at (now (c .args .rows)) (c .args .line)) (c .pre .1))
+loop-holds c = summed-none _ _ (ap length (no-rows-empty (path-at (now (c .args .rows)) (c .args .line)) (c .pre .1)))
 
 row-sum-requires : tie.Need-row-sum-requires Inv-loop μ-loop
 row-sum-requires c κs = search needs

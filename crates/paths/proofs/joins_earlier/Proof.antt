@@ -5,7 +5,7 @@ use mathlib.Core.Path.{sym, _∙_}
 use borrow.Author.Needs.{needs}
 use borrow.Author.Tests.{not-true, not-false}
 use Rattle.paths.specs.Answers.{joins-earlier}
-use Rattle.paths.proofs.AllBelow.{Tested, tested-none, tested-more, tested-fault, tested-all}
+use Rattle.paths.proofs.AllBelow.{so-far-none, so-far-more, Tested, tested-fault, tested-all}
 use Rattle.paths.proofs.LegalLines.{goes-with, closed-joins}
 use Rattle.paths.proofs.joins_earlier.Statement.{statement}
 use Rattle.paths.proofs.joins_earlier.Tie as tie
@@ -23,7 +23,7 @@ returns : tie.Need-returns Inv-loop μ-loop
 returns c = sym (closed-joins _ _ (sym (c .before .is-closed .ensures) ∙ c .if1 .taken))
 
 loop-holds : tie.Need-loop-holds Inv-loop μ-loop
-loop-holds c = tested-none _ _
+loop-holds c = so-far-none _ _
 
 together-requires : tie.Need-together-requires Inv-loop μ-loop
 together-requires c κs = search needs
@@ -43,7 +43,7 @@ loop-less c = search needs
 loop-again : tie.Need-loop-again Inv-loop μ-loop
 loop-again c =
     let in-loop = c .before .before in
-    tested-more (in-loop .before .loop .inv) (in-loop .loop-test .taken) (sym (c .before .together .ensures) ∙ not-false _ (c .if2 .left))
+    so-far-more (in-loop .before .loop .inv) (in-loop .loop-test .taken) (sym (c .before .together .ensures) ∙ not-false _ (c .if2 .left))
 
 returns-3 : tie.Need-returns-3 Inv-loop μ-loop
 unfolding joins-earlier

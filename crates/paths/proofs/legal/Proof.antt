@@ -6,7 +6,7 @@ use mathlib.Core.Path.{sym, _∙_}
 use borrow.Author.Needs.{needs}
 use borrow.Author.Tests.{not-true, not-false}
 use Rattle.paths.specs.Answers.{line-legal}
-use Rattle.paths.proofs.AllBelow.{Tested, tested-none, tested-more, tested-fault, tested-all}
+use Rattle.paths.proofs.AllBelow.{so-far-none, so-far-more, Tested, tested-fault, tested-all}
 use Rattle.paths.proofs.LegalLines.{legal-by-lines}
 use Rattle.paths.proofs.legal.Statement.{statement}
 use Rattle.paths.proofs.legal.Tie as tie
@@ -18,7 +18,7 @@ abbrev μ-loop : tie.MeasureT-loop
 μ-loop rows line₀ line = 64 - line
 
 loop-holds : tie.Need-loop-holds Inv-loop μ-loop
-loop-holds c = tested-none _ _
+loop-holds c = so-far-none _ _
 
 line-legal-requires : tie.Need-line-legal-requires Inv-loop μ-loop
 line-legal-requires c κs = search needs
@@ -37,7 +37,7 @@ loop-less c = search needs
 loop-again : tie.Need-loop-again Inv-loop μ-loop
 loop-again c =
     let in-loop = c .before .before in
-    tested-more (in-loop .before .loop .inv) (omega arith) (sym (c .before .line-legal .ensures) ∙ not-false _ (c .if1 .left))
+    so-far-more (in-loop .before .loop .inv) (omega arith) (sym (c .before .line-legal .ensures) ∙ not-false _ (c .if1 .left))
 
 returns-2 : tie.Need-returns-2 Inv-loop μ-loop
 returns-2 c = sym (legal-by-lines _ ∙ tested-all (c .before .loop .inv) (omega arith))

@@ -3,7 +3,8 @@
 use mathlib.Core.Path.{sym, _∙_}
 use borrow.Author.Needs.{needs}
 use Rattle.lines.specs.Answers.{close-answer}
-use Rattle.plan.proofs.Changes.{close-none-above, close-none}
+use Rattle.lines.proofs.CloseLine.{close-above}
+use Rattle.plan.proofs.Changes.{close-none}
 use Rattle.plan.proofs.change.close_rows.Statement.{statement}
 use Rattle.plan.proofs.change.close_rows.Tie as tie
 
@@ -18,9 +19,7 @@ returns c = c .close-line .ensures
 
 returns-2 : tie.Need-returns-2
 unfolding close-answer
-returns-2 c =
-    let no-tree = c .before in
-    close-none-above _ (sym (no-tree .before .legal .ensures) ∙ no-tree .if1 .left) _ (c .if2 .taken)
+returns-2 c = close-above _ _ (c .if2 .taken)
 
 returns-3 : tie.Need-returns-3
 unfolding close-answer
