@@ -1,5 +1,5 @@
-//! The functions of the library as they are: numbers and slices in, one number out (see `include/gaplinte.h`). A slice of
-//! a wrong length is refused with 255.
+//! The functions of the library as they are: numbers and slices in, one number out (see `include/gaplinte.h`). A slice
+//! of a wrong length is refused with 255.
 
 // The only unsafe code: a foreign call can be made in no other way. Each call passes the pointers and lengths of slices
 // that Rust holds borrowed during it, which is what a slice is in the library's own calling convention. The library is

@@ -1,9 +1,10 @@
-//! A record that is no tree, through every call: it is treated as the empty plan, and a refused call leaves it as found.
+//! A record that is no tree, through every call: it is treated as the empty plan, and a refused call leaves it as
+//! found.
 
 use gaplinte::{Line, Period, Plan, Refusal, Round, Start, Walker};
 
-/// Records that are no tree: a number out of range, an edge not below its weight, a row after an unused one, two lines at
-/// one place, a line above another, every number at its largest.
+/// Records that are no tree: a number out of range, an edge not below its weight, a row after an unused one, two lines
+/// at one place, an edge without a weight, a line above another, every number alike.
 fn damaged() -> Vec<Plan> {
     let mut booked = Plan::default();
     booked.open(Line(3), Period(12)).unwrap();

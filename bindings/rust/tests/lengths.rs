@@ -1,5 +1,5 @@
-//! Slices of a wrong length, through the library's own functions: refused with 255 before everything else, and every lent
-//! slice stays as found.
+//! Slices of a wrong length, through the library's own functions: refused with 255 before everything else, and every
+//! lent slice stays as found.
 
 use gaplinte::raw;
 
