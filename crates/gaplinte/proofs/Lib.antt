@@ -2,3 +2,4 @@ pub mod Copying
 pub mod OrdersServing
 pub mod RowsWritten
 pub mod Serving
+pub mod Told

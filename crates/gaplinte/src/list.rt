@@ -26,7 +26,8 @@ pub extern "C" fn gaplinte_run_list(rows: &mut [u16], orders: &[u8], answers: &m
     if rows.len() != 1408 {
         return WRONG_LENGTH;
     }
-    let result = lists::run_list(rows::copy_in(rows), orders, answers);
+    let found = rows::copy_in(rows);
+    let result = lists::run_list(found, orders, answers);
     let answer = result.answer;
     rows::copy_out(result.plan, rows);
     list_number(answer)

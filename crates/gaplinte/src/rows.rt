@@ -5,7 +5,7 @@ ghost use Rattle.gaplinte.specs.Served.{plan-of, Whole};
 use tree::Plan;
 
 // The numbers of one record are copied into another.
-pub fn copy(from: &[u16], to: &mut [u16])
+pub(crate) fn copy(from: &[u16], to: &mut [u16])
     requires { ⌜ Whole (now from) × Whole (now to) ⌝ }
     ensures { λ _. ⌜ now (to .exit) ≡ now (from .entry) ⌝ }
 {
@@ -17,7 +17,7 @@ pub fn copy(from: &[u16], to: &mut [u16])
 }
 
 // The numbers of the slice, in an array.
-pub fn copied(rows: &[u16]) -> [u16; 1408]
+pub(crate) fn copied(rows: &[u16]) -> [u16; 1408]
     requires { ⌜ Whole (now rows) ⌝ }
     ensures { λ r. ⌜ r ≡ now (rows .entry) ⌝ }
 {
@@ -27,7 +27,7 @@ pub fn copied(rows: &[u16]) -> [u16; 1408]
 }
 
 // The plan whose record the slice is.
-pub fn copy_in(rows: &[u16]) -> Plan
+pub(crate) fn copy_in(rows: &[u16]) -> Plan
     requires { ⌜ Whole (now rows) ⌝ }
     ensures { λ r. ⌜ r ≡ plan-of (now (rows .entry)) ⌝ }
 {
@@ -35,7 +35,7 @@ pub fn copy_in(rows: &[u16]) -> Plan
 }
 
 // The slice becomes a copy of the array. A reference to an array needs no proof of its length from the caller.
-pub fn copy_back(numbers: &[u16; 1408], rows: &mut [u16])
+pub(crate) fn copy_back(numbers: &[u16; 1408], rows: &mut [u16])
     requires { ⌜ Whole (now rows) ⌝ }
     ensures { λ _. ⌜ now (rows .exit) ≡ now (numbers .entry) ⌝ }
 {
@@ -43,7 +43,7 @@ pub fn copy_back(numbers: &[u16; 1408], rows: &mut [u16])
 }
 
 // The slice becomes the record of a plan.
-pub fn copy_out(plan: Plan, rows: &mut [u16])
+pub(crate) fn copy_out(plan: Plan, rows: &mut [u16])
     requires { ⌜ Whole (now rows) ⌝ }
     ensures { λ _. ⌜ now (rows .exit) ≡ plan .rows ⌝ }
 {

@@ -1,0 +1,24 @@
+//! The walker: the owners of successive rounds, one for each call.
+
+use crate::plan::line_or_idle;
+use crate::raw;
+use crate::refusal::outcome;
+use crate::{Line, Plan, Refusal, Round};
+
+/// A walker's place: the next round, and how many of the rounds seen were owned. `Walker::default()` starts at round 0.
+#[derive(Clone, Copy, Debug, Default, PartialEq, Eq)]
+pub struct Walker {
+    pub next: Round,
+    pub owned: u64,
+}
+
+impl Walker {
+    /// The owner of the next round, `None` where it is idle. The place moves on, unless the call is refused.
+    pub fn walk(&mut self, plan: &Plan) -> Result<Option<Line>, Refusal> {
+        let mut place = [self.next.0, self.owned];
+        let answer = raw::walk(plan.record(), &mut place);
+        self.next = Round(place[0]);
+        self.owned = place[1];
+        outcome(answer).map(line_or_idle)
+    }
+}

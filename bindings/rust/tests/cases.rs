@@ -1,0 +1,147 @@
+//! The marked cases of document 01, through the bindings.
+
+use gaplinte::{Line, Period, Plan, Refusal, Round, Row, Start};
+
+/// Opens lines 1, 2, 3 .. in turn, each with a period, and compares what each open gives: a start, or a refusal. A
+/// refused open leaves the plan as found.
+fn opened(periods: &[(u64, Result<u64, Refusal>)]) -> Plan {
+    let mut plan = Plan::default();
+    for (line, &(period, expected)) in (1..).zip(periods) {
+        let before = plan.clone();
+        let answer = plan.open(Line(line), Period(period));
+        assert_eq!(answer, expected.map(Start), "line {line}, period {period}");
+        assert!(answer.is_ok() || plan == before);
+    }
+    owners_fit(&plan);
+    plan
+}
+
+/// Each of some rounds, small and large, is owned by the one open line that it fits, or idle.
+fn owners_fit(plan: &Plan) {
+    let open: Vec<_> = (0..64)
+        .filter_map(|line| Some((Line(line), plan.show(Line(line)).ok()?)))
+        .collect();
+    for round in (0..5000).chain(u64::MAX - 5000..=u64::MAX) {
+        let fitting: Vec<_> = open
+            .iter()
+            .filter(|(_, shown)| round % shown.period.0 == shown.start.0)
+            .map(|&(line, _)| line)
+            .collect();
+        assert!(fitting.len() < 2, "round {round} fits two lines");
+        assert_eq!(plan.owner(Round(round)), fitting.first().copied());
+    }
+}
+
+fn path(rows: &[(u16, u16)]) -> [Row; 11] {
+    let mut path = [Row::default(); 11];
+    for (row, &(weight, edge)) in path.iter_mut().zip(rows) {
+        *row = Row { weight, edge };
+    }
+    path
+}
+
+#[test]
+fn case_a() {
+    let plan = opened(&[
+        (4, Ok(0)),
+        (6, Ok(1)),
+        (8, Ok(2)),
+        (2, Err(Refusal::NoCandidate)),
+        (12, Ok(3)),
+    ]);
+    assert_eq!(plan.owner(Round(7)), Some(Line(2)));
+    assert_eq!(plan.owner(Round(10)), Some(Line(3)));
+    assert_eq!(plan.owner(Round(9)), None);
+    let shown = plan.show(Line(5)).unwrap();
+    assert_eq!((shown.period, shown.start), (Period(12), Start(3)));
+    assert_eq!(shown.rows, path(&[(2, 1), (3, 1), (2, 0)]));
+    assert_eq!(plan.turns(Line(5), 100), Ok(9));
+    assert_eq!(
+        format!("{plan:?}"),
+        r#"{1: "4@0", 2: "6@1", 3: "8@2", 5: "12@3"}"#
+    );
+}
+
+#[test]
+fn case_b() {
+    opened(&[(4, Ok(0)), (4, Ok(1)), (2, Err(Refusal::NoCandidate))]);
+}
+
+#[test]
+fn case_c() {
+    opened(&[(6, Ok(0)), (12, Ok(1)), (12, Ok(7))]);
+}
+
+#[test]
+fn case_d() {
+    let plan = opened(&[
+        (1, Ok(0)),
+        (1, Err(Refusal::NoCandidate)),
+        (4095, Err(Refusal::NoCandidate)),
+    ]);
+    assert_eq!(plan.show(Line(1)).unwrap().rows, path(&[(1, 0)]));
+    assert_eq!(plan.turns(Line(1), u32::MAX), Ok(1 << 32));
+}
+
+#[test]
+fn case_e() {
+    opened(&[(2, Ok(0)), (3, Err(Refusal::NoCandidate))]);
+}
+
+#[test]
+fn case_f() {
+    let mut plan = Plan::default();
+    for line in 1..=11 {
+        plan.open(Line(line), Period(1 << line)).unwrap();
+    }
+    let last = plan.show(Line(11)).unwrap();
+    assert_eq!((last.period, last.start), (Period(2048), Start(1023)));
+    let mut rows = [(2, 1); 11];
+    rows[10] = (2, 0);
+    assert_eq!(last.rows, path(&rows));
+    owners_fit(&plan);
+}
+
+#[test]
+fn case_g() {
+    opened(&[(4095, Ok(0))]);
+    let out_of_range = Err(Refusal::PeriodOutOfRange);
+    opened(&[(4096, out_of_range), (0, out_of_range)]);
+}
+
+#[test]
+fn case_h() {
+    let mut plan = Plan::default();
+    assert_eq!(plan.open(Line(63), Period(5)), Ok(Start(0)));
+    assert_eq!(plan.open(Line(64), Period(5)), Err(Refusal::LineAbove63));
+}
+
+#[test]
+fn case_i() {
+    let orders = [
+        0x01, 0x00, 0x60, 0x02, 0x00, 0x20, 0x03, 0x00, 0x30, 0x42, 0x00, 0x00, 0x03, 0x00, 0x30,
+        0x42, 0x00, 0x00,
+    ];
+    let mut answers = [0xee; 14];
+    let mut plan = Plan::default();
+    assert_eq!(plan.run_list(&orders, &mut answers), Ok(()));
+    // Results 0, 0, 5, 0, 5, 4 and starts 0, 1; the bytes beyond are untouched.
+    let expected = [
+        0x00, 0x00, 0x00, 0x01, 0x50, 0x00, 0x00, 0x00, 0x50, 0x00, 0x40, 0x00, 0xee, 0xee,
+    ];
+    assert_eq!(answers, expected);
+    assert_eq!(plan.show(Line(1)).map(|shown| shown.period), Ok(Period(6)));
+    assert_eq!(plan.show(Line(2)), Err(Refusal::LineNotOpen));
+    assert_eq!(plan.show(Line(3)), Err(Refusal::LineNotOpen));
+    owners_fit(&plan);
+}
+
+#[test]
+fn an_emptied_plan_is_the_fresh_one() {
+    let mut plan = opened(&[(4, Ok(0)), (6, Ok(1)), (8, Ok(2))]);
+    for line in 1..=3 {
+        assert_eq!(plan.close(Line(line)), Ok(()));
+        owners_fit(&plan);
+    }
+    assert_eq!(plan, Plan::default());
+}

@@ -1,0 +1,85 @@
+//! A record that is no tree, through every call: it is treated as the empty plan, and a refused call leaves it as
+//! found.
+
+use gaplinte::{Line, Period, Plan, Refusal, Round, Start, Walker};
+
+/// Records that are no tree: a number out of range, an edge not below its weight, a row after an unused one, two lines
+/// at one place, an edge without a weight, a line above another, every number alike.
+fn damaged() -> Vec<Plan> {
+    let mut booked = Plan::default();
+    booked.open(Line(3), Period(12)).unwrap();
+    let with = |numbers: &[(usize, u16)]| {
+        let mut record = *booked.record();
+        for &(place, number) in numbers {
+            record[place] = number;
+        }
+        Plan::from_record(record)
+    };
+    vec![
+        with(&[(22 * 3, 4096)]),
+        with(&[(1407, 65_535)]),
+        with(&[(22 * 3 + 1, 12)]),
+        with(&[(22 * 3 + 4, 2)]),
+        with(&[(22 * 5, 12)]),
+        with(&[(22 * 3, 0), (22 * 3 + 1, 1)]),
+        with(&[(22 * 5, 12), (22 * 5 + 1, 0), (22 * 5 + 2, 2)]),
+        Plan::from_record([65_535; 1408]),
+        Plan::from_record([1; 1408]),
+    ]
+}
+
+#[test]
+fn asked() {
+    for plan in damaged() {
+        for round in [0, 1, 12, u64::MAX] {
+            assert_eq!(plan.owner(Round(round)), None);
+        }
+        for line in [0, 3, 5, 63].map(Line) {
+            assert_eq!(plan.show(line), Err(Refusal::LineNotOpen));
+            assert_eq!(plan.turns(line, 7), Err(Refusal::LineNotOpen));
+        }
+        assert_eq!(plan.show(Line(64)), Err(Refusal::LineAbove63));
+        let mut walker = Walker::default();
+        assert_eq!(walker.walk(&plan), Ok(None));
+        assert_eq!((walker.next, walker.owned), (Round(1), 0));
+    }
+}
+
+#[test]
+fn changed() {
+    let mut fresh = Plan::default();
+    assert_eq!(fresh.open(Line(3), Period(12)), Ok(Start(0)));
+    for found in damaged() {
+        let mut plan = found.clone();
+        assert_eq!(plan.close(Line(3)), Err(Refusal::LineNotOpen));
+        assert_eq!(plan.close(Line(64)), Err(Refusal::LineAbove63));
+        assert_eq!(
+            plan.open(Line(3), Period(0)),
+            Err(Refusal::PeriodOutOfRange)
+        );
+        assert_eq!(plan.open(Line(64), Period(1)), Err(Refusal::LineAbove63));
+        assert_eq!(plan, found);
+        assert_eq!(plan.open(Line(3), Period(12)), Ok(Start(0)));
+        assert_eq!(plan, fresh);
+    }
+}
+
+#[test]
+fn lists() {
+    let mut fresh = Plan::default();
+    assert_eq!(fresh.open(Line(3), Period(12)), Ok(Start(0)));
+    for found in damaged() {
+        let mut plan = found.clone();
+        let mut answers = [0xee; 4];
+        // An empty list, and one whose only order is refused: nothing was carried out, and the record is as found.
+        assert_eq!(plan.run_list(&[], &mut answers), Ok(()));
+        assert_eq!(plan, found);
+        assert_eq!(plan.run_list(&[0x43, 0x00, 0x00], &mut answers), Ok(()));
+        assert_eq!(answers, [0x40, 0x00, 0xee, 0xee]);
+        assert_eq!(plan, found);
+        let orders = [0x43, 0x00, 0x00, 0x03, 0x00, 0xc0];
+        assert_eq!(plan.run_list(&orders, &mut answers), Ok(()));
+        assert_eq!(answers, [0x40, 0x00, 0x00, 0x00]);
+        assert_eq!(plan, fresh);
+    }
+}

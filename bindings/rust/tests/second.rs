@@ -1,0 +1,159 @@
+//! The same calls put to the second program, which is written from document 01 alone: every answer agrees.
+
+use gaplinte::{pack, read, Call, Line, Period, Plan, Refusal, Round, Walker};
+use second::orders::{self, Order};
+use second::random::Random;
+use second::shapes::Shape;
+use second::{ask, lists, tree, walker};
+
+const LISTS_OF_A_SHAPE: u64 = 100;
+const ROUNDS: u64 = 200;
+
+/// A refusal of either program as its number.
+fn numbered<T>(answer: Result<T, Refusal>) -> Result<T, u8> {
+    answer.map_err(Refusal::number)
+}
+
+fn numbered_second<T>(answer: Result<T, second::refusal::Refusal>) -> Result<T, u8> {
+    answer.map_err(second::refusal::Refusal::number)
+}
+
+fn lists() -> impl Iterator<Item = Vec<u8>> {
+    Shape::ALL.into_iter().flat_map(|shape| {
+        let mut random = Random::new(11);
+        (0..LISTS_OF_A_SHAPE).map(move |_| lists::generate(shape, &mut random))
+    })
+}
+
+/// A number that is mostly below the bound, sometimes just about it and sometimes any.
+fn number_about(bound: u64, random: &mut Random) -> u64 {
+    match random.below(8) {
+        0 => random.draw(),
+        1 => bound + random.below(3),
+        2 => 65_536 + random.below(bound),
+        _ => random.below(bound),
+    }
+}
+
+fn rounds(random: &mut Random) -> Vec<u64> {
+    let near = [0, 1 << 32, u64::MAX - ROUNDS];
+    let mut rounds: Vec<_> = near
+        .into_iter()
+        .flat_map(|from| from..=from + ROUNDS)
+        .collect();
+    rounds.extend((0..ROUNDS).map(|_| random.draw()));
+    rounds
+}
+
+/// Owner, show, turns and the walker on two plans that should have the same tree.
+fn ask_both(plan: &Plan, other: &tree::Plan, random: &mut Random) {
+    for round in rounds(random) {
+        let owner = ask::owner(other, round).map(|line| Line(line.into()));
+        assert_eq!(plan.owner(Round(round)), owner, "round {round}");
+    }
+    for line in 0..66 {
+        let shown = numbered(plan.show(Line(line))).map(|shown| {
+            let rows = shown.rows.map(|row| (row.weight, row.edge));
+            (shown.period.0, shown.start.0, rows)
+        });
+        let expected = numbered_second(ask::show(other, line)).map(|shown| {
+            let rows = shown.path.map(|row| (row.weight, row.edge));
+            (shown.period.0.into(), shown.start.0.into(), rows)
+        });
+        assert_eq!(shown, expected, "line {line}");
+        let rounds = random.draw() as u32;
+        let turns = numbered_second(ask::turns(other, line, rounds));
+        assert_eq!(numbered(plan.turns(Line(line), rounds)), turns);
+    }
+    for from in [0, random.draw(), u64::MAX - ROUNDS / 2] {
+        let mut walker = Walker {
+            next: Round(from),
+            owned: from / 2,
+        };
+        let mut place = walker::Place {
+            next: from,
+            owned: from / 2,
+        };
+        for _ in 0..ROUNDS {
+            let (answer, after) = walker::walk(other, place);
+            let answer = numbered_second(answer).map(|line| line.map(|line| Line(line.into())));
+            assert_eq!(numbered(walker.walk(plan)), answer);
+            assert_eq!((walker.next.0, walker.owned), (after.next, after.owned));
+            place = after;
+        }
+    }
+}
+
+/// Opens and closes, with some arguments out of range and some far out of range.
+#[test]
+fn calls() {
+    let mut random = Random::new(12);
+    for list in lists() {
+        let mut plan = Plan::default();
+        let mut other = tree::Plan::empty();
+        for order in list.chunks_exact(3) {
+            let wide = number_about(4096, &mut random);
+            match orders::read([order[0], order[1], order[2]]) {
+                Ok(Order::Open { line, period }) => {
+                    let line = if wide < 64 { wide } else { line.into() };
+                    let period = if wide < 4096 { period.into() } else { wide };
+                    let answer = plan.open(Line(line), Period(period)).map(|start| start.0);
+                    let expected = other.open(line, period).map(|start| start.0.into());
+                    assert_eq!(numbered(answer), numbered_second(expected));
+                }
+                Ok(Order::Close { line }) => {
+                    let line = if wide < 4096 { line.into() } else { wide };
+                    let answer = plan.close(Line(line));
+                    assert_eq!(numbered(answer), numbered_second(other.close(line)));
+                }
+                Err(_) => continue,
+            }
+        }
+        ask_both(&plan, &other, &mut random);
+    }
+}
+
+/// Lists, run whole on the empty plan and once more on the plan that they left.
+#[test]
+fn order_lists() {
+    let mut random = Random::new(13);
+    for list in lists() {
+        let mut plan = Plan::default();
+        let mut other = tree::Plan::empty();
+        for _ in 0..2 {
+            let room = 2 * (list.len() / 3) + random.below(4) as usize;
+            let mut answers = vec![0xee; room];
+            let mut expected = vec![0xee; room];
+            assert_eq!(plan.run_list(&list, &mut answers), Ok(()));
+            orders::run(&mut other, &list, &mut expected).unwrap();
+            assert_eq!(answers, expected);
+        }
+        ask_both(&plan, &other, &mut random);
+    }
+}
+
+#[test]
+fn packing_and_reading() {
+    let mut random = Random::new(14);
+    for _ in 0..100_000 {
+        let kind = random.below(3);
+        let line = number_about(64, &mut random);
+        let period = match random.below(3) {
+            0 => 0,
+            _ => number_about(4096, &mut random),
+        };
+        let packed = numbered(pack(kind, Line(line), Period(period)));
+        assert_eq!(packed, numbered_second(orders::pack(kind, line, period)));
+
+        let [first, second, third, ..] = random.draw().to_be_bytes();
+        let order = match random.below(2) {
+            0 => [first, second, third],
+            _ => [first & 0x7f, second, third & 0xf0],
+        };
+        let expected = orders::read(order).map(|order| match order {
+            Order::Open { line, period } => Call::Open(Line(line.into()), Period(period.into())),
+            Order::Close { line } => Call::Close(Line(line.into())),
+        });
+        assert_eq!(numbered(read(order)), numbered_second(expected));
+    }
+}
