@@ -7,7 +7,7 @@ use std::fmt;
 
 /// A plan of rounds. `Plan::default()` is the empty one.
 ///
-/// Plans with the same tree are equal, since equal trees are equal records.
+/// Two plans whose records are trees are equal exactly where the trees are.
 #[derive(Clone, PartialEq, Eq)]
 pub struct Plan {
     rows: [u16; raw::PLAN_NUMBERS],
