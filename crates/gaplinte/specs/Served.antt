@@ -33,17 +33,19 @@ change-outcome (booked s) = gives s
 change-outcome done = gives 0
 change-outcome (refused n) = refuses n
 
+-- an open or a close on a slice: its answer, and the record after it, as found where the call is refused
 pub record ChangeServed (c : Call) (before after : List ℕ) (r : ℕ) : Type 0 where
   pub answers : Answers (Whole before) (change-outcome (answer c (treeOf (plan-of before)))) r
   pub rows : Leaves (Whole before) before (plan-after c (plan-of before) .rows) after
 
 -- Owner
 
--- the value is the line, or 64 where the round is idle
+-- (Asking the plan, 1) The value is the line, or 64, which is no line, where the round is idle.
 unfoldable pub line-or-64 : Option ℕ → ℕ
 line-or-64 (some L) = L
 line-or-64 none = 64
 
+-- the owner of a round by a slice: no outcome of it is a refusal
 pub record OwnerServed (rows : List ℕ) (round r : ℕ) : Type 0 where
   pub answers : Answers (Whole rows) (gives (line-or-64 (owner round (treeOf (plan-of rows))))) r
 
@@ -53,6 +55,7 @@ pub record OwnerServed (rows : List ℕ) (round r : ℕ) : Type 0 where
 unfoldable pub list-outcome : Option ℕ → Outcome ℕ
 list-outcome o = gives-unless o 0
 
+-- (Orders, 4, 5) A list on a slice: its answer, the record after it, and the lent answer bytes, as found where the list is refused.
 pub record ListServed (before orders lent after written : List ℕ) (r : ℕ) : Type 0 where
   pub answers : Answers (Whole before) (list-outcome (list-refusal (length orders) (length lent))) r
   pub rows : Leaves (Whole before) before (plan-after-list (list-refusal (length orders) (length lent)) (plan-of before) orders .rows) after
@@ -60,6 +63,7 @@ pub record ListServed (before orders lent after written : List ℕ) (r : ℕ) : 
 
 -- Turns
 
+-- (Asking the plan, 4) turns of a line by a slice
 pub record TurnsServed (rows : List ℕ) (L N r : ℕ) : Type 0 where
   pub answers : Answers (Whole rows) (turns-outcome L N (treeOf (plan-of rows))) r
 
@@ -70,10 +74,11 @@ unfoldable pub row-numbers : List Row → List ℕ
 row-numbers [] = []
 row-numbers (row ∷ rows) = row .weight ∷ row .edge ∷ row-numbers rows
 
--- the numbers of what show gives: period, start, and those of the 11 rows
+-- (Asking the plan, 3) the numbers of what show gives: period, start, and those of the 11 rows
 unfoldable pub shown-numbers : Shown → List ℕ
 shown-numbers s = s .period ∷ s .start ∷ row-numbers (s .rows)
 
+-- show of a line by a slice: its answer, and the 24 numbers lent, as found where the call is refused
 pub record ShowServed (rows : List ℕ) (L : ℕ) (before after : List ℕ) (r : ℕ) : Type 0 where
   pub answers : Answers (Whole rows × (length before ≡ 24)) (zero-value (show-outcome L (treeOf (plan-of rows)))) r
   pub shown : Leaves (Whole rows × (length before ≡ 24)) before (numbers-or shown-numbers before (show-outcome L (treeOf (plan-of rows)))) after
@@ -85,13 +90,14 @@ unfoldable pub line-number : Outcome (Option ℕ) → Outcome ℕ
 line-number (gives o) = gives (line-or-64 o)
 line-number (refuses n) = refuses n
 
--- a place as two numbers: the next round, and the count of owned rounds
+-- (The walker, 1) A place as two numbers: the next round, and the count of owned rounds.
 unfoldable pub place-of : List ℕ → WalkerPlace
 place-of place = record { next = getD place 0 0; owned = getD place 1 0 }
 
 unfoldable pub place-numbers : WalkerPlace → List ℕ
 place-numbers p = p .next ∷ p .owned ∷ []
 
+-- (The walker, 2) A walker call on two slices: its answer, and the place moved on, as found where the call is refused.
 pub record WalkServed (rows before after : List ℕ) (r : ℕ) : Type 0 where
   pub answers : Answers (Whole rows × (length before ≡ 2)) (line-number (walk-outcome (place-of before) (treeOf (plan-of rows)))) r
   pub place : Leaves (Whole rows × (length before ≡ 2)) before (place-numbers (place-after (place-of before) (treeOf (plan-of rows)))) after
