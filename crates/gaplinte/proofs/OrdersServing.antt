@@ -2,7 +2,7 @@
 -- Assumes nothing.
 use Prim.Native.Nat.{ℕ, zero, suc, _<_}
 use native.Mathlib.Omega.{arith}
-use mathlib.Core.Path.{_≡_, refl, sym, _∙_, ap}
+use mathlib.Core.Path.{_≡_, refl, _∙_, ap}
 use mathlib.Core.Bool.{Bool, true, false}
 use mathlib.Core.List.{List, [], _∷_}
 use mathlib.Core.Option.{Option, none, some}
@@ -10,10 +10,10 @@ use lib.Dec.{ltb}
 use lib.ListN.{length, set}
 use Rattle.tree.specs.Search.{if_then_else_}
 use Rattle.tree.specs.Refusals.{first-refusal, line-above-63}
-use Rattle.tree.specs.Calls.{Call, open-line, close-line, Outcome, gives, refuses, gives-unless}
+use Rattle.tree.specs.Calls.{Call, Outcome, gives, refuses, gives-unless}
 use Rattle.orders.specs.declared.Bytes.{Bytes}
 use Rattle.orders.specs.Order.{kind, line, period, order-of}
-use Rattle.orders.specs.Packing.{kind-above-1, period-above-4095, close-with-period, packing-refusal, packing}
+use Rattle.orders.specs.Packing.{kind-above-1, period-above-4095, packing-refusal, packing}
 use Rattle.orders.specs.Reading.{reading-refusal, call-of, line-of, reading}
 use Rattle.orders.proofs.FieldLaws.{field-below}
 use Rattle.gaplinte.specs.Answer.{answer-number, zero-value, numbers-or}

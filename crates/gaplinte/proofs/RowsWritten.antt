@@ -7,12 +7,12 @@ use mathlib.Core.List.{List, [], _∷_, _++_, append-nil}
 use lib.ListN.{length, take, drop, getD, set, length-set, drop-of-length-le}
 use lib.Seq.{take-all}
 use Rattle.tree.specs.declared.Row.{Row}
-use Rattle.tree.specs.Asking.{Shown}
-use Rattle.gaplinte.specs.Served.{row-numbers, shown-numbers}
+use Rattle.tree.specs.Record.{numbers}
+use Rattle.gaplinte.specs.Served.{shown-numbers}
 
 -- the numbers behind the first k rows' are as found
 unfoldable pub rows-then : List Row → List ℕ → ℕ → List ℕ
-rows-then path found k = row-numbers (take k path) ++ drop (2 * k) found
+rows-then path found k = numbers (take k path) ++ drop (2 * k) found
 
 -- two numbers stand in front, and k rows are written behind them
 pub record RowsWritten (path : List Row) (start shown : List ℕ) (k : ℕ) : Type 0 where
@@ -23,7 +23,7 @@ pub record RowsWritten (path : List Row) (start shown : List ℕ) (k : ℕ) : Ty
   pub shown-is : shown ≡ take 2 start ++ rows-then path (drop 2 start) k
 
 all-behind : (path : List Row) (xs : List ℕ) → length xs ≡ 24 → xs ≡ take 2 xs ++ rows-then path (drop 2 xs) 0
-unfolding rows-then row-numbers
+unfolding rows-then numbers
 all-behind path [] h = absurd (omega arith)
 all-behind path (x ∷ []) h = absurd (omega arith)
 all-behind path (x ∷ y ∷ xs) h = refl
@@ -34,7 +34,7 @@ no-rows path start eleven size = record { within = zero-le; path-size = eleven; 
 -- one row more
 row-more : (path : List Row) (found : List ℕ) (k : ℕ) (d : Row) → k < length path → 2 * length path ≤ length found →
     set (set (rows-then path found k) (2 * k) (getD path k d .weight)) (suc (2 * k)) (getD path k d .edge) ≡ rows-then path found (suc k)
-unfolding rows-then row-numbers
+unfolding rows-then numbers
 row-more [] found k d below room = absurd (omega arith)
 row-more (row ∷ path) [] k d below room = absurd (omega arith)
 row-more (row ∷ path) (x ∷ []) k d below room = absurd (omega arith)
@@ -44,7 +44,7 @@ row-more (row ∷ path) (x ∷ y ∷ found) (suc k) d below room =
     let twice-more : 2 * suc (suc k) ≡ suc (suc (2 * suc k)) = omega arith in
     rw (twice-more, twice)
     (ap (λ (l : List ℕ). row .weight ∷ row .edge ∷ l)
-    (row-more path found k d (omega arith) (omega arith) ∙ ap (λ (n : ℕ). row-numbers (take (suc k) path) ++ drop n found) twice))
+    (row-more path found k d (omega arith) (omega arith) ∙ ap (λ (n : ℕ). numbers (take (suc k) path) ++ drop n found) twice))
 
 more-behind : (path : List Row) (start shown : List ℕ) (k : ℕ) (d : Row) → RowsWritten path start shown k → k < 11 →
     set (set shown (2 + 2 * k) (getD path k d .weight)) (3 + 2 * k) (getD path k d .edge) ≡ take 2 start ++ rows-then path (drop 2 start) (suc k)
@@ -70,9 +70,9 @@ rows-more {path = path} {start = start} {shown = shown} {k = k} d so-far below =
     }
 
 -- all 11
-all-rows : (path : List Row) (found : List ℕ) (k : ℕ) → length path ≤ k → length found ≤ 2 * k → rows-then path found k ≡ row-numbers path
+all-rows : (path : List Row) (found : List ℕ) (k : ℕ) → length path ≤ k → length found ≤ 2 * k → rows-then path found k ≡ numbers path
 unfolding rows-then
-all-rows path found k past behind = rw (take-all k path past, drop-of-length-le found behind) (append-nil (row-numbers path))
+all-rows path found k past behind = rw (take-all k path past, drop-of-length-le found behind) (append-nil (numbers path))
 
 pub rows-all : (path : List Row) (lent shown : List ℕ) (k p s : ℕ) → RowsWritten path (set (set lent 0 p) 1 s) shown k → length lent ≡ 24 → 11 ≤ k →
     shown ≡ shown-numbers (record { period = p; start = s; rows = path })

@@ -22,7 +22,6 @@ use Rattle.plan.specs.Meets.{plan-unless, plan-after, Meets}
 use Rattle.plan.specs.Walker.{walk-answer, WalkedOn}
 use Rattle.plan.proofs.Changes.{carried-meets}
 use Rattle.history.proofs.Replaying.{period-stands-for}
-use Rattle.lists.specs.Lists.{list-refusal}
 use Rattle.lists.specs.Runs.{ListRan}
 use Rattle.gaplinte.specs.Answer.{answer-number, zero-value, numbers-or, Answers, Leaves}
 use Rattle.gaplinte.specs.Served.{plan-of, Whole, change-outcome, ChangeServed, line-or-64, OwnerServed, list-outcome, ListServed, TurnsServed, shown-numbers, ShowServed, line-number, place-of, place-numbers, WalkServed}

@@ -1,6 +1,6 @@
 -- An answer of a call tells its outcome: no value reaches 2^56 and no refusal is 0, so that the two cannot be confused.
 -- Assumes nothing.
-use Prim.Native.Nat.{ℕ, _+_, _*_, _/_, _^_, _<_, _≤_}
+use Prim.Native.Nat.{ℕ, _*_, _/_, _^_, _<_, _≤_}
 use native.Mathlib.Nat.{div-le-self}
 use native.Mathlib.Omega.{arith}
 use mathlib.Core.Path.{_≡_, refl, ap}

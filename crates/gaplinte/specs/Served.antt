@@ -6,10 +6,9 @@ use mathlib.Core.List.{List, [], _∷_}
 use mathlib.Core.Option.{Option, none, some}
 use lib.ListN.{length, getD}
 use Rattle.tree.specs.declared.Plan.{Plan}
-use Rattle.tree.specs.declared.Row.{Row}
 use Rattle.tree.specs.Asking.{owner, Shown}
 use Rattle.tree.specs.Calls.{Call, Answer, booked, done, refused, answer, Outcome, gives, refuses, gives-unless, show-outcome, turns-outcome}
-use Rattle.tree.specs.Record.{treeOf}
+use Rattle.tree.specs.Record.{treeOf, numbers}
 use Rattle.plan.specs.declared.walker.WalkerPlace.{WalkerPlace}
 use Rattle.plan.specs.Meets.{plan-after}
 use Rattle.plan.specs.Walker.{walk-outcome, place-after}
@@ -69,14 +68,9 @@ pub record TurnsServed (rows : List ℕ) (L N r : ℕ) : Type 0 where
 
 -- Show
 
--- the numbers of rows: of each its weight and its edge
-unfoldable pub row-numbers : List Row → List ℕ
-row-numbers [] = []
-row-numbers (row ∷ rows) = row .weight ∷ row .edge ∷ row-numbers rows
-
 -- (Asking the plan, 3) the numbers of what show gives: period, start, and those of the 11 rows
 unfoldable pub shown-numbers : Shown → List ℕ
-shown-numbers s = s .period ∷ s .start ∷ row-numbers (s .rows)
+shown-numbers s = s .period ∷ s .start ∷ numbers (s .rows)
 
 -- show of a line by a slice: its answer, and the 24 numbers lent, as found where the call is refused
 pub record ShowServed (rows : List ℕ) (L : ℕ) (before after : List ℕ) (r : ℕ) : Type 0 where
