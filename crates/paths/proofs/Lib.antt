@@ -13,4 +13,7 @@ pub mod RowLaws
 pub mod RangeLaws
 -- The whole record
 pub mod Blocks
+pub mod SplitLines
 pub mod LegalLines
+-- The search over the paths
+pub mod PickedSpots
