@@ -1,4 +1,4 @@
--- The record of an opened tree: what the code writes into the record of the tree before (`booked-at` of specs/Paths.antt).
+-- The record of an opened tree: what the code writes into the record of the tree before (`booked-at` of crate paths, specs/Rules.antt).
 -- Assumes nothing.
 use Prim.Native.Nat.{ℕ, _+_, _*_, _/_, _<_}
 use native.Mathlib.Omega.{arith}

@@ -1,4 +1,4 @@
--- The search over the paths (`best-of-lines` of specs/Paths.antt) finds the chosen candidate of the tree, and none only where none is chosen.
+-- The search over the paths (`best-of-lines` of crate paths, specs/Rules.antt) finds the chosen candidate of the tree, and none only where none is chosen.
 -- Assumes nothing.
 use Prim.Native.Nat.{ℕ, _<_}
 use mathlib.Core.Path.{_≡_, refl, sym, _∙_, ap, subst}

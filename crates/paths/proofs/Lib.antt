@@ -15,5 +15,7 @@ pub mod RangeLaws
 pub mod Blocks
 pub mod SplitLines
 pub mod LegalLines
+-- The product and the sum along a path
+pub mod PathNumbers
 -- The search over the paths
 pub mod PickedSpots
