@@ -1,4 +1,4 @@
--- The walk over the paths (crate tree, specs/Paths.antt), one node at a time.
+-- The walk over the paths (crate paths, specs/Rules.antt), one node at a time.
 -- Assumes nothing.
 use Prim.Native.Nat.{ℕ, suc, _+_, _-_, _/_, _%_, _<_}
 use native.Mathlib.Omega.{arith}

@@ -1,4 +1,4 @@
--- What the answers of this crate's functions stand for, over the paths of the lines (crate tree, specs/Paths.antt).
+-- What the answers of this crate's functions stand for, over the paths of the lines (crate paths, specs/Rules.antt).
 -- Assumes nothing.
 use Prim.Native.Nat.{ℕ}
 use mathlib.Core.Bool.{Bool, not, _&&_}

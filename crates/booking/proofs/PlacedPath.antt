@@ -1,4 +1,4 @@
--- The rows of a booked path (`booked-path`, crate tree, specs/Paths.antt), the invariant of `place_line`'s loop, and the path of a first line.
+-- The rows of a booked path (`booked-path`, crate paths, specs/Rules.antt), the invariant of `place_line`'s loop, and the path of a first line.
 -- Assumes nothing.
 use Prim.Native.Nat.{ℕ, suc, _+_, _<_, _≤_, zero-le}
 use native.Mathlib.Omega.{arith}

@@ -2,14 +2,13 @@
 -- Assumes nothing.
 use Prim.Native.Nat.{ℕ, _<_}
 use native.Mathlib.Decide.{ℕ-discrete}
-use mathlib.Core.Path.{_≡_, sym, _∙_, ap}
+use mathlib.Core.Path.{_≡_, sym, _∙_}
 use mathlib.Core.List.{List}
 use lib.ListN.{length}
 use Rattle.tree.specs.declared.Row.{Row}
 use Rattle.tree.specs.Record.{row-at}
 use Rattle.paths.specs.Rules.{row-of, set-line}
-use Rattle.paths.proofs.RowLaws.{row-in}
-use Rattle.paths.proofs.Blocks.{row-at-in-block, row-at-of-block, set-line-length, block-set-line-same, block-set-line-other}
+use Rattle.paths.proofs.Blocks.{row-at-by-block, row-at-of-block, set-line-length, block-set-line-same, block-set-line-other}
 use Rattle.booking.proofs.RecordRows.{same-record}
 
 module _ (rows : List ℕ) (size : length rows ≡ 1408) (L : ℕ) (below : L < 64) (rs : List Row) where
@@ -17,10 +16,7 @@ module _ (rows : List ℕ) (size : length rows ≡ 1408) (L : ℕ) (below : L < 
   set-line-row = row-at-of-block (set-line rows L rs) L rs (block-set-line-same rows L rs below size)
 
   pub set-line-other : (M k : ℕ) → (M ≡ L → ⊥) → k < 11 → row-at (set-line rows L rs) M k ≡ row-at rows M k
-  set-line-other M k other h =
-      row-at-in-block (set-line rows L rs) M k h
-      ∙ ap (λ (b : List ℕ). row-in b k) (block-set-line-other rows L M rs below other size)
-      ∙ sym (row-at-in-block rows M k h)
+  set-line-other M k other = row-at-by-block (set-line rows L rs) rows M (block-set-line-other rows L M rs below other size) k
 
   -- a record with these rows is that record
   pub is-set-line : (new : List ℕ) → length new ≡ 1408 → ((k : ℕ) → k < 11 → row-at new L k ≡ row-of k rs) → ((M k : ℕ) → (M ≡ L → ⊥) → k < 11 → row-at new M k ≡ row-at rows M k) → new ≡ set-line rows L rs

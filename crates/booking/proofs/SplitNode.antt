@@ -1,6 +1,6 @@
 -- The lines through a node, and the invariant of `split_node`'s loop: the lines passed are split where they go through the node, the others are as they were.
 -- Assumes nothing.
-use Prim.Native.Nat.{ℕ, zero, suc, _+_, _<_, _≤_, zero-le}
+use Prim.Native.Nat.{ℕ, _+_, _<_, _≤_, zero-le}
 use native.Mathlib.Omega.{arith}
 use native.Mathlib.Nat.{le-refl}
 use native.Mathlib.Decide.{ℕ-discrete}
@@ -10,13 +10,13 @@ use mathlib.Core.Bool.{Bool, true, false}
 use mathlib.Core.List.{List}
 use lib.ListN.{length}
 use Rattle.tree.specs.declared.Row.{Row}
-use Rattle.tree.specs.Search.{if_then_else_}
 use Rattle.tree.specs.Record.{row-at, path-at}
 use Rattle.paths.specs.Rules.{row-of, same-node, set-line, split-path, split-lines}
 use Rattle.paths.proofs.PathRest.{path-length-at-most-11}
 use Rattle.paths.proofs.PathRows.{row-in-path, weight-in-path}
 use Rattle.paths.proofs.SameNode.{same-node-goes-on, same-node-by-edges, same-node-either}
-use Rattle.paths.proofs.Blocks.{set-line-length}
+use Rattle.paths.proofs.Blocks.{row-at-by-block}
+use Rattle.paths.proofs.SplitLines.{split-lines-length, block-not-yet}
 use Rattle.booking.specs.Writing.{SplittableOnLine, Splittable}
 use Rattle.booking.proofs.SetLine.{set-line-row, set-line-other}
 use Rattle.booking.proofs.PathRows.{path-goes-on, path-same, rest-unused-same}
@@ -47,22 +47,20 @@ module _ (rows : List ℕ) (size : length rows ≡ 1408) (L l d : ℕ) (below : 
 pub record SplitBelow (start rows : List ℕ) (L l d n : ℕ) : Type 0 where
   pub within : n ≤ 64
   pub splittable : Splittable start L l d
-  pub size : length rows ≡ 1408
+  pub start-size : length start ≡ 1408
   pub same : rows ≡ split-lines start (path-at start L) l d n
   pub goes-on : l < length (path-at rows L)
   pub way-kept : (k : ℕ) → k < l → row-of k (path-at rows L) ≡ row-of k (path-at start L)
-  pub not-reached : (M : ℕ) → n ≤ M → (k : ℕ) → k < 11 → row-at rows M k ≡ row-at start M k
 
 pub split-below-none : {start : List ℕ} {L l d : ℕ} → length start ≡ 1408 → Splittable start L l d → SplitBelow start start L l d 0
 unfolding split-lines
 split-below-none size splittable = record {
   within = zero-le;
   splittable = splittable;
-  size = size;
+  start-size = size;
   same = refl;
   goes-on = splittable .on-path;
   way-kept = λ k h. refl;
-  not-reached = λ M h k below. refl;
 }
 
 module _ {start rows : List ℕ} {L l d n : ℕ} (split : SplitBelow start rows L l d n) where
@@ -71,9 +69,16 @@ module _ {start rows : List ℕ} {L l d n : ℕ} (split : SplitBelow start rows 
       let all : n ≡ 64 = omega (arith, split .within) in
       rw (← all) (split .same)
 
+  size : length rows ≡ 1408
+  size = rw (split .same) (split-lines-length start (path-at start L) l d (split .start-size) n (split .within))
+
+  -- line n is as it was
+  not-reached : (k : ℕ) → k < 11 → row-at rows n k ≡ row-at start n k
+  not-reached = row-at-by-block rows start n (rw (split .same) (block-not-yet start (path-at start L) l d (split .start-size) n n (split .within) (le-refl n)))
+
   module _ (below : n < 64) {through : Bool} (read : through ≡ same-node l (path-at rows L) (path-at rows n)) where
     path-kept : path-at rows n ≡ path-at start n
-    path-kept = path-same rows start n (split .not-reached n (le-refl n))
+    path-kept = path-same rows start n not-reached
 
     -- what the test says of the line at the start
     test-kept : through ≡ same-node l (path-at start L) (path-at start n)
@@ -89,11 +94,10 @@ module _ {start rows : List ℕ} {L l d n : ℕ} (split : SplitBelow start rows 
     split-below-other no-line = record {
       within = omega arith;
       splittable = split .splittable;
-      size = split .size;
+      start-size = split .start-size;
       same = rw (add-one, ← test-kept, no-line) (split .same);
       goes-on = split .goes-on;
       way-kept = split .way-kept;
-      not-reached = λ M h. split .not-reached M (omega arith);
     }
 
     module _ (is-through : through ≡ true) where
@@ -106,7 +110,7 @@ module _ {start rows : List ℕ} {L l d n : ℕ} (split : SplitBelow start rows 
             on-path = same-node-goes-on l (path-at rows L) (path-at rows n) (sym read ∙ is-through) .1;
             row-left = record {
               short = rw path-kept (left .short);
-              rest-is-unused = rest-unused-same start rows n (λ k h. sym (split .not-reached n (le-refl n) k h)) (left .rest-is-unused);
+              rest-is-unused = rest-unused-same start rows n (λ k h. sym (not-reached k h)) (left .rest-is-unused);
             };
           }
 
@@ -116,35 +120,19 @@ module _ {start rows : List ℕ} {L l d n : ℕ} (split : SplitBelow start rows 
       split-below-more {new} done = record {
         within = omega arith;
         splittable = split .splittable;
-        size = rw done (set-line-length rows n _ below (split .size));
+        start-size = split .start-size;
         same = rw (add-one, ← test-kept, is-through) (rw (← split .same, ← path-kept) done);
         goes-on = still-goes-on (ℕ-discrete n L);
         way-kept = λ k h. still-kept k h (ℕ-discrete n L) ∙ split .way-kept k h;
-        not-reached = λ M h k within. rw done (set-line-other rows (split .size) n below _ M k (λ e. omega arith) within) ∙ split .not-reached M (omega arith) k within;
       }
         where
           other-path : (n ≡ L → ⊥) → path-at new L ≡ path-at rows L
-          other-path other = path-same new rows L (λ k within. rw done (set-line-other rows (split .size) n below _ L k (λ e. other (sym e)) within))
+          other-path other = path-same new rows L (λ k within. rw done (set-line-other rows size n below _ L k (λ e. other (sym e)) within))
 
           still-goes-on : Dec (n ≡ L) → l < length (path-at new L)
-          still-goes-on (yes e) = rw (← e) (split-goes-on rows (split .size) n l d below (split .splittable .divisor-above-0) (through-splittable .on-path) new done)
+          still-goes-on (yes e) = rw (← e) (split-goes-on rows size n l d below (split .splittable .divisor-above-0) (through-splittable .on-path) new done)
           still-goes-on (no other) = rw (other-path other) (split .goes-on)
 
           still-kept : (k : ℕ) → k < l → Dec (n ≡ L) → row-of k (path-at new L) ≡ row-of k (path-at rows L)
-          still-kept k h (yes e) = rw (← e) (split-keeps-row rows (split .size) n l d below (split .splittable .divisor-above-0) (through-splittable .on-path) new done k h)
+          still-kept k h (yes e) = rw (← e) (split-keeps-row rows size n l d below (split .splittable .divisor-above-0) (through-splittable .on-path) new done k h)
           still-kept k h (no other) = rw (other-path other)
-
--- What a split keeps
-
-module _ {start : List ℕ} {L l d : ℕ} (size : length start ≡ 1408) (splittable : Splittable start L l d) where
-  pub split-below : (n : ℕ) → n ≤ 64 → SplitBelow start (split-lines start (path-at start L) l d n) L l d n
-  unfolding split-lines
-  split-below zero within = split-below-none size splittable
-  split-below (suc n) within = rw (← add-one n) (go (split-below n (omega arith)) (same-node l (path-at start L) (path-at start n)) refl)
-    where
-      so-far : List ℕ
-      so-far = split-lines start (path-at start L) l d n
-
-      go : SplitBelow start so-far L l d n → (b : Bool) → same-node l (path-at start L) (path-at start n) ≡ b → SplitBelow start (if b then set-line so-far n (split-path l d (path-at start n)) else so-far) L l d (n + 1)
-      go split true e = split-below-more split (omega arith) refl (test-kept split (omega arith) refl ∙ e) (rw (path-kept split (omega arith) refl))
-      go split false e = split-below-other split (omega arith) refl (test-kept split (omega arith) refl ∙ e)

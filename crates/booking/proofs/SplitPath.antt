@@ -1,4 +1,4 @@
--- The rows of a path whose node at a level was split (`split-path`, crate tree, specs/Paths.antt), and the invariant of `split_line`'s loop.
+-- The rows of a path whose node at a level was split (`split-path`, crate paths, specs/Rules.antt), and the invariant of `split_line`'s loop.
 -- Assumes nothing.
 use Prim.Native.Nat.{ℕ, zero, suc, _+_, _-_, _/_, _%_, _<_, _≤_}
 use native.Mathlib.Omega.{arith}

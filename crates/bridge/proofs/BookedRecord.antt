@@ -1,9 +1,8 @@
--- The record of an opened tree: what the code writes into the record of the tree before (`booked-at` of specs/Paths.antt).
+-- The record of an opened tree: what the code writes into the record of the tree before (`booked-at` of crate paths, specs/Rules.antt).
 -- Assumes nothing.
-use Prim.Native.Nat.{ℕ, zero, suc, _+_, _*_, _/_, _<_, _≤_}
+use Prim.Native.Nat.{ℕ, _+_, _*_, _/_, _<_}
 use native.Mathlib.Omega.{arith}
 use mathlib.Core.Path.{_≡_, refl, sym, _∙_, ap, subst}
-use mathlib.Core.Logic.{inl, inr}
 use mathlib.Core.Bool.{Bool, true, false, true≢false}
 use mathlib.Core.List.{List, []}
 use mathlib.Core.Option.{Option, none, some, Option·getD}
@@ -16,11 +15,11 @@ use Rattle.tree.specs.Tree.{Tree, node, path, path-of, step}
 use Rattle.tree.specs.Opening.{divisor, opened, start-in, start-given}
 use Rattle.tree.specs.Asking.{rows-11}
 use Rattle.tree.specs.Record.{path-at, legal, treeOf, numbers, recordOf}
-use Rattle.paths.specs.Rules.{row-of, same-node, Spot, place-of, set-line, split-path, split-lines, booked-path, booked-at}
-use Rattle.tree.proofs.Searching.{last-or-below}
+use Rattle.paths.specs.Rules.{row-of, same-node, Spot, place-of, split-path, split-lines, booked-path, booked-at}
 use Rattle.tree.proofs.Opening.{MayOpen, opened-legal}
 use Rattle.paths.proofs.SameNode.{same-node-none}
-use Rattle.paths.proofs.Blocks.{block, set-line-length, block-set-line-same, block-set-line-other}
+use Rattle.paths.proofs.SplitLines.{split-lines-length, block-split}
+use Rattle.paths.proofs.Blocks.{block}
 use Rattle.bridge.proofs.RecordBlocks.{set-line-record}
 use Rattle.bridge.proofs.TreeOfRecord.{treeOf-paths}
 use Rattle.bridge.proofs.NodesOnPaths.{same-node-exactly}
@@ -31,62 +30,6 @@ use Rattle.bridge.proofs.WrittenPaths.{Written}
 use Rattle.bridge.proofs.BlockPaths.{path-of-block}
 use Rattle.bridge.proofs.ClosedRecord.{legal-block}
 use Rattle.bridge.proofs.RecordRoundTrip.{path-of-written}
-
--- Lines split one after the other
-
-module _ (rows : List ℕ) (ps : List Row) (l d : ℕ) (long : length rows ≡ 1408) where
-  pub split-lines-length : (n : ℕ) → n ≤ 64 → length (split-lines rows ps l d n) ≡ 1408
-  unfolding split-lines
-  split-lines-length zero most = long
-  split-lines-length (suc n) most = by-test (same-node l ps (path-at rows n)) (split-lines-length n (omega arith))
-    where
-      by-test : (b : Bool) → length (split-lines rows ps l d n) ≡ 1408 →
-          length (if b then set-line (split-lines rows ps l d n) n (split-path l d (path-at rows n)) else split-lines rows ps l d n) ≡ 1408
-      by-test true h = set-line-length (split-lines rows ps l d n) n (split-path l d (path-at rows n)) (omega arith) h
-      by-test false h = h
-
-  -- a line at or above n is as it was
-  block-not-yet : (n M : ℕ) → n ≤ 64 → n ≤ M → block (split-lines rows ps l d n) M ≡ block rows M
-  unfolding split-lines
-  block-not-yet zero M most above = refl
-  block-not-yet (suc n) M most above = by-test (same-node l ps (path-at rows n)) (block-not-yet n M (omega arith) (omega arith))
-    where
-      by-test : (b : Bool) → block (split-lines rows ps l d n) M ≡ block rows M →
-          block (if b then set-line (split-lines rows ps l d n) n (split-path l d (path-at rows n)) else split-lines rows ps l d n) M ≡ block rows M
-      by-test true h =
-          block-set-line-other (split-lines rows ps l d n) n M (split-path l d (path-at rows n)) (omega arith) (λ same. omega arith) (split-lines-length n (omega arith)) ∙ h
-      by-test false h = h
-
-  -- a line below n was split where it goes through the node
-  abbrev block-after : ℕ → List ℕ
-  block-after M = if same-node l ps (path-at rows M) then numbers (rows-11 (split-path l d (path-at rows M))) else block rows M
-
-  block-split-last : (n : ℕ) → n < 64 → block (split-lines rows ps l d (suc n)) n ≡ block-after n
-  unfolding split-lines
-  block-split-last n below = by-test (same-node l ps (path-at rows n))
-    where
-      by-test : (b : Bool) →
-          block (if b then set-line (split-lines rows ps l d n) n (split-path l d (path-at rows n)) else split-lines rows ps l d n) n
-          ≡ (if b then numbers (rows-11 (split-path l d (path-at rows n))) else block rows n)
-      by-test true = block-set-line-same (split-lines rows ps l d n) n (split-path l d (path-at rows n)) below (split-lines-length n (omega arith))
-      by-test false = block-not-yet n n (omega arith) (omega arith)
-
-  pub block-split : (n M : ℕ) → n ≤ 64 → M < n → block (split-lines rows ps l d n) M ≡ block-after M
-  unfolding split-lines
-  block-split zero M most below = absurd (omega arith)
-  block-split (suc n) M most below =
-      elim (last-or-below M n below) [
-        | inl same ↦ subst (λ (k : ℕ). block (split-lines rows ps l d (suc n)) k ≡ block-after k) (sym same) (block-split-last n (omega arith))
-        | inr earlier ↦ by-test (same-node l ps (path-at rows n)) (block-split n M (omega arith) earlier) earlier
-      ]
-    where
-      by-test : (b : Bool) → block (split-lines rows ps l d n) M ≡ block-after M → M < n →
-          block (if b then set-line (split-lines rows ps l d n) n (split-path l d (path-at rows n)) else split-lines rows ps l d n) M ≡ block-after M
-      by-test true h earlier =
-          block-set-line-other (split-lines rows ps l d n) n M (split-path l d (path-at rows n)) (omega arith) (λ same. omega arith) (split-lines-length n (omega arith)) ∙ h
-      by-test false h earlier = h
-
--- The booking
 
 module _ (plan : Plan) (L p : ℕ) (s : Spot) (is-legal : legal (plan .rows) ≡ true) (long : length (plan .rows) ≡ 1408)
     (may : MayOpen L p (treeOf plan)) (found-spot : FoundSpot p (treeOf plan) (path-at (plan .rows)) s) where

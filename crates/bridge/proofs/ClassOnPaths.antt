@@ -1,4 +1,4 @@
--- What a level of a line's path offers (specs/Paths.antt) is what the node there has: its smallest free class, if it is a candidate.
+-- What a level of a line's path offers (crate paths, specs/Rules.antt) is what the node there has: its smallest free class, if it is a candidate.
 -- Assumes nothing.
 use Prim.Native.Nat.{ℕ, _%_, _<_}
 use native.Mathlib.Omega.{arith}

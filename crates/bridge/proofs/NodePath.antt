@@ -4,7 +4,7 @@ use Prim.Native.Nat.{ℕ, _<_}
 use native.Mathlib.Decide.{ℕ-discrete}
 use mathlib.Core.Path.{_≡_, sym, _∙_, ap, fun-ext}
 use mathlib.Core.List.{List, _∷_}
-use mathlib.Core.Option.{some, Option·map}
+use mathlib.Core.Option.{some, Option·map, map-eq-some-iff}
 use Rattle.tree.specs.declared.Row.{Row}
 use Rattle.tree.specs.Search.{found, first}
 use Rattle.tree.specs.Tree.{Tree, node, row, path, is-open}
@@ -12,7 +12,7 @@ use Rattle.tree.specs.Opening.{put}
 use Rattle.tree.specs.Shape.{Edges}
 use Rattle.tree.proofs.Searching.{first-only}
 use Rattle.tree.proofs.Put.{put-same, put-other}
-use Rattle.tree.proofs.Standing.{map-some, path-below}
+use Rattle.tree.proofs.Standing.{path-below}
 
 pub path-under : (M w : ℕ) (f : ℕ → Tree) (e : ℕ) (rs : List Row) → Edges w f → e < w → path M (f e) ≡ some rs → path M (node w f) ≡ some (row w e ∷ rs)
 unfolding path is-open found
@@ -20,7 +20,7 @@ path-under M w f e rs edges below h =
     first-only w _ e (row w e ∷ rs) below (ap (Option·map (_∷_ (row w e))) h) only
   where
     only : (j : ℕ) (qs : List Row) → Option·map (_∷_ (row w j)) (path M (f j)) ≡ some qs → j ≡ e
-    only j qs k = edges .line-once M j e (ap found (map-some (_∷_ (row w j)) (path M (f j)) qs k .1)) (ap found h)
+    only j qs k = edges .line-once M j e (ap found (map-eq-some-iff (_∷_ (row w j)) (path M (f j)) .0 k .1)) (ap found h)
 
 same-row : (w v e k : ℕ) (rs qs : List Row) → row w e ∷ rs ≡ row v k ∷ qs → (w ≡ v) × (e ≡ k) × (rs ≡ qs)
 same-row w v e k rs qs h =

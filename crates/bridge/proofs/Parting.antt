@@ -3,29 +3,19 @@
 use Prim.Native.Nat.{ℕ, _<_}
 use native.Mathlib.Omega.{arith}
 use mathlib.Core.Path.{_≡_, refl, sym, _∙_, ap}
-use mathlib.Core.Bool.{true, false, false≢true, not-eq-not, and-eq-true-iff}
+use mathlib.Core.Bool.{true, false, false≢true, not-eq-not}
 use mathlib.Core.List.{List, [], _∷_}
 use mathlib.Core.Option.{some, Option·none-ne-some}
-use lib.Dec.{eqb}
-use borrow.Author.Tests.{eqb-true, eq-eqb}
 use Rattle.tree.specs.declared.Row.{Row}
 use Rattle.tree.specs.Search.{found}
 use Rattle.tree.specs.Tree.{Tree, nothing, line, node, present, row, path, is-open}
 use Rattle.tree.specs.Record.{parts}
 use Rattle.tree.proofs.Proper.{Proper}
 use Rattle.tree.proofs.Standing.{path-below, not-open-below}
-use Rattle.paths.proofs.PathsPart.{parts-none}
+use Rattle.paths.proofs.PathsPart.{parts-none, parts-row}
 use Rattle.paths.proofs.RangeLaws.{EdgesBelow}
 use Rattle.bridge.proofs.NodePath.{path-under}
 use Rattle.bridge.proofs.SameTree.{present-path, path-here}
-
--- Two paths that part
-
-parts-row : (p : Row) (ps : List Row) (q : Row) (qs : List Row) → parts (p ∷ ps) (q ∷ qs) ≡ true → (p .weight ≡ q .weight) × (p .edge ≡ q .edge → parts ps qs ≡ true)
-unfolding parts
-parts-row p ps q qs h =
-    let both = and-eq-true-iff (eqb (p .weight) (q .weight)) _ .0 h in
-    (eqb-true _ _ (both .0), λ same. rw (eq-eqb (p .edge) (q .edge) same) at (both .1))
 
 -- Line L may stand at the end of the path rs: it stands nowhere, and the path of every line parts from rs
 

@@ -5,7 +5,7 @@ use Prim.Native.Nat.{ℕ, _<_, _≤_}
 use native.Mathlib.Omega.{arith}
 use native.Mathlib.Decide.{decLt}
 use mathlib.Core.Path.{_≡_, refl, sym, _∙_, ap, ap₂}
-use mathlib.Core.Bool.{Bool, true, false, _&&_, _||_, and-eq-true-iff, or-true}
+use mathlib.Core.Bool.{true, false, _&&_, and-eq-true-iff, or-true}
 use mathlib.Core.List.{List, [], _∷_}
 use mathlib.Core.Option.{Option, none, some, Option·getD, Option·none-ne-some}
 use lib.ListN.{length}
@@ -45,12 +45,7 @@ no-rows-in-range = refl
 -- paths that part go together
 parts-together : (ps qs : List Row) → parts ps qs ≡ true → together ps qs ≡ true
 unfolding together
-parts-together ps qs h = by-tests (no-rows ps) (no-rows qs)
-  where
-    by-tests : (a b : Bool) → (a || (b || parts ps qs)) ≡ true
-    by-tests true b = refl
-    by-tests false true = refl
-    by-tests false false = h
+parts-together ps qs h = rw (h, or-true, or-true)
 
 -- a line of a legal tree has a node above it
 path-has-rows : (t : Tree) (M : ℕ) (rs : List Row) → Legal t → path M t ≡ some rs → no-rows rs ≡ false

@@ -3,9 +3,9 @@
 use Prim.Native.Nat.{ℕ, zero, suc, _+_, _*_, _/_, _%_, _<_}
 use native.Mathlib.Omega.{arith}
 use native.Mathlib.Decide.{decLt, ℕ-discrete}
-use native.Mathlib.Nat.{mul-one, mul-assoc, mod-lt, mod-eq-of-lt, le-antisymm}
+use native.Mathlib.Nat.{mul-one, mul-assoc, mod-lt, mod-eq-of-lt}
 use mathlib.Core.Path.{_≡_, refl, sym, _∙_, ap, subst, subst₂}
-use mathlib.Core.Bool.{true, false, true≢false, false≢true}
+use mathlib.Core.Bool.{true, false, false≢true}
 use mathlib.Core.List.{List, [], _∷_}
 use lib.Dec.{eqb, ltb}
 use lib.ListN.{length, take}
@@ -19,9 +19,9 @@ use Rattle.tree.proofs.Digits.{digits-of}
 use Rattle.tree.proofs.UnderEdge.{stands-present}
 use Rattle.tree.proofs.Put.{put-same, put-other}
 use Rattle.tree.proofs.Proper.{Proper}
-use Rattle.tree.proofs.Classes.{free-absent, present-taken}
-use Rattle.tree.proofs.Split.{group-node, split-groups, split-whole, divisor-at-most, quotient-below}
-use Rattle.tree.proofs.Booking.{Room, newcomer-line, newcomer-node, booked-edges}
+use Rattle.tree.proofs.Classes.{present-taken}
+use Rattle.tree.proofs.Split.{group-node, split-groups, split-whole, divisor-is-weight, quotient-below}
+use Rattle.tree.proofs.Booking.{Room, newcomer-line, newcomer-node, booked-edges, not-in-class}
 use Rattle.tree.proofs.BookingAt.{Fit, steps}
 use Rattle.bridge.proofs.Route.{Route, route-under, route-stands}
 
@@ -63,9 +63,6 @@ module _ (L d q w : ℕ) (f : ℕ → Tree) (i : ℕ) (room : Room d q w f i) wh
     edge-present : present (f e) ≡ true
     edge-present = stands-present M (f e) _ _ (route-stands M (f e) rs h)
 
-    not-in-class : e % d ≡ i → ⊥
-    not-in-class class = true≢false (sym edge-present ∙ free-absent d w f i e (room .class-free) below class)
-
     group-route : d < w → Route M (split d w f (e % d)) (row (w / d) (e / d) ∷ rs)
     group-route small =
         rw (split-groups d w f small, group-node d w f (e % d) (present-taken d w f e below edge-present))
@@ -78,13 +75,13 @@ module _ (L d q w : ℕ) (f : ℕ → Tree) (i : ℕ) (room : Room d q w f i) wh
         elim (decLt d w) [
           | yes small ↦
               rw (lt-ltb d w small)
-              (route-put-other M d i (newcomer L q) (split d w f) (e % d) _ (mod-lt e (room .divisor-positive)) not-in-class (group-route small))
+              (route-put-other M d i (newcomer L q) (split d w f) (e % d) _ (mod-lt e (room .divisor-positive)) (not-in-class L d q w f i room e below edge-present) (group-route small))
           | no not-small ↦
-              let whole : d ≡ w = le-antisymm (divisor-at-most d w (room .weight-positive) (room .divides-weight)) (omega arith) in
+              let whole = divisor-is-weight d w (room .weight-positive) (room .divides-weight) not-small in
               let same : e % d ≡ e = mod-eq-of-lt (subst (λ (n : ℕ). e < n) (sym whole) below) in
               rw (le-ltb d w (omega arith))
               (subst (λ (n : ℕ). Route M (node d (booked-edges L d q w f i)) (row n e ∷ rs)) whole
-              (route-put-other M d i (newcomer L q) (split d w f) e rs (omega arith) (λ class. not-in-class (same ∙ class))
+              (route-put-other M d i (newcomer L q) (split d w f) e rs (omega arith) (λ class. not-in-class L d q w f i room e below edge-present (same ∙ class))
               (rw (split-whole d w f (omega arith)) h)))
         ]
 

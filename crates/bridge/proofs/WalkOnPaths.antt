@@ -1,4 +1,4 @@
--- The walk over paths (`walk-on-paths` and `owner-on-paths` of crate tree, specs/Paths.antt) goes as the walk over the tree.
+-- The walk over paths (`walk-on-paths` and `owner-on-paths` of crate paths, specs/Rules.antt) goes as the walk over the tree.
 -- Assumes nothing.
 use Prim.Native.Nat.{ℕ, zero, suc, _+_, _/_, _%_, _<_, _≤_}
 use native.Mathlib.Omega.{arith}

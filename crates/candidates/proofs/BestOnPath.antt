@@ -1,29 +1,28 @@
 -- The invariants of the searches along one path (`Reached`, specs/Answers.antt) and over the lines.
 -- Assumes nothing.
-use Prim.Native.Nat.{ℕ, suc, _+_, _*_, _<_, _≤_, zero-le}
+use Prim.Native.Nat.{ℕ, _+_, _*_, _<_, _≤_, zero-le}
 use native.Mathlib.Omega.{arith}
 use native.Mathlib.Numerals.{add-one}
-use mathlib.Core.Path.{_≡_, refl, sym}
+use mathlib.Core.Path.{_≡_, refl}
 use mathlib.Core.Bool.{true}
 use mathlib.Core.List.{List}
 use mathlib.Core.Option.{Option}
-use lib.ListN.{length, take}
-use Rattle.tree.specs.Tree.{product, sum-from, sum}
+use lib.ListN.{length}
 use Rattle.tree.specs.Record.{row-at, path-at, no-rows, legal}
 use Rattle.paths.specs.Rules.{Spot, spot-at, better-spot, best-on-path, best-of-lines}
-use Rattle.paths.proofs.LegalLines.{legal-in-range}
+use Rattle.paths.proofs.PathNumbers.{Carried, carried-start, carried-row, carried-below, carried-small}
 use Rattle.paths.proofs.RowLaws.{no-rows-empty}
 use Rattle.candidates.specs.declared.Chosen.{Chosen}
 use Rattle.candidates.specs.declared.Chosen.the-variants.{Nothing}
 use Rattle.candidates.specs.Answers.{spot-of, Reached}
-use Rattle.paths.proofs.PathRows.{row-in-path}
-use Rattle.candidates.proofs.PathNumbers.{product-more, sum-more, Bounded, path-numbers}
 
 -- Along one path
 
 pub at-root : (rows : List ℕ) (L p : ℕ) {best : Option Spot} → best ≡ best-of-lines (path-at rows) p L → Reached (path-at rows) p L 0 1 0 best
-unfolding product sum sum-from best-on-path
-at-root rows L p earlier = record { within = zero-le; step-is = refl; offset-is = refl; best-is = earlier }
+unfolding best-on-path
+at-root rows L p earlier =
+    let start = carried-start rows L in
+    record { within = start .within; step-is = start .product-is; offset-is = start .sum-is; best-is = earlier }
 
 module _ (rows : List ℕ) {p L l m r : ℕ} {best : Option Spot} (reached : Reached (path-at rows) p L l m r best) where
   pub at-end : {earlier : Option Spot} → earlier ≡ best-of-lines (path-at rows) p L → length (path-at rows L) ≤ l → best ≡ best-on-path (path-at rows) p earlier L (length (path-at rows L))
@@ -31,35 +30,31 @@ module _ (rows : List ℕ) {p L l m r : ℕ} {best : Option Spot} (reached : Rea
       let e : l ≡ length (path-at rows L) = omega (arith, reached .within) in
       rw before (rw e at (reached .best-is))
 
-  module _ (is-legal : legal rows ≡ true) (line-below : L < 64) where
-    numbers : (l : ℕ) → Bounded (path-at rows L) l
-    numbers = path-numbers (path-at rows L) (legal-in-range rows is-legal L line-below)
+  carried : Carried rows L m r l
+  carried = record { within = reached .within; product-is = reached .step-is; sum-is = reached .offset-is }
 
+  module _ (is-legal : legal rows ≡ true) (line-below : L < 64) where
     pub step-positive : 0 < m
-    step-positive = omega (arith, reached .step-is, numbers l .offset-below)
+    step-positive = omega (arith, carried-below carried is-legal line-below)
 
     module _ (below : l < length (path-at rows L)) where
-      offset-next : {e : ℕ} → e ≡ row-at rows L l .edge → r + e * m ≡ sum (take (suc l) (path-at rows L))
-      offset-next read = rw (reached .offset-is, reached .step-is, read, ← row-in-path rows L below) (sym (sum-more (path-at rows L) l below))
-
-      step-next : {w : ℕ} → w ≡ row-at rows L l .weight → m * w ≡ product (take (suc l) (path-at rows L))
-      step-next read = rw (reached .step-is, read, ← row-in-path rows L below) (sym (product-more (path-at rows L) l below))
-
       -- the next offset and the next step are small
       pub offset-small : {e : ℕ} → e ≡ row-at rows L l .edge → r + e * m ≤ 4095
-      offset-small read = let n = numbers (suc l) in omega (arith, offset-next read)
+      offset-small read = carried-small (carried-row carried below read refl) is-legal line-below .1
 
       pub step-small : {w : ℕ} → w ≡ row-at rows L l .weight → m * w ≤ 4095
-      step-small read = let n = numbers (suc l) in omega (arith, step-next read)
+      step-small read = carried-small (carried-row carried below refl read) is-legal line-below .0
 
       pub next-level : {next : Option Spot} → next ≡ better-spot best (spot-at (path-at rows) p L l) → {e w : ℕ} → e ≡ row-at rows L l .edge → w ≡ row-at rows L l .weight → Reached (path-at rows) p L (l + 1) (m * w) (r + e * m) next
       unfolding best-on-path
-      next-level better read-edge read-weight = record {
-        within = omega arith;
-        step-is = rw add-one (step-next read-weight);
-        offset-is = rw add-one (offset-next read-edge);
-        best-is = rw (add-one, ← reached .best-is) better;
-      }
+      next-level better read-edge read-weight =
+          let row = carried-row carried below read-edge read-weight in
+          record {
+            within = row .within;
+            step-is = row .product-is;
+            offset-is = row .sum-is;
+            best-is = rw (add-one, ← reached .best-is) better;
+          }
 
 -- Over the lines
 

@@ -4,5 +4,4 @@ pub mod Spots
 pub mod NothingBetter
 pub mod SeenEarlier
 pub mod BetterOffer
-pub mod PathNumbers
 pub mod BestOnPath

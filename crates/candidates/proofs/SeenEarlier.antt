@@ -2,7 +2,7 @@
 -- Assumes nothing.
 use Prim.Native.Nat.{ℕ, zero, suc, _+_, _<_, _≤_}
 use mathlib.Core.Path.{_≡_, refl, sym, _∙_}
-use mathlib.Core.Bool.{Bool, true, false, _||_, not, false≢true, and-eq-true-iff}
+use mathlib.Core.Bool.{Bool, true, false, false≢true, and-eq-true-iff}
 use mathlib.Core.List.{List, [], _∷_}
 use mathlib.Core.Option.{Option, none, some, Option·map, Option·some-ne-none}
 use lib.Dec.{eqb}
@@ -20,8 +20,9 @@ use Rattle.paths.proofs.LegalLines.{legal-together}
 use Rattle.candidates.specs.Answers.{seen-earlier, Reached}
 use Rattle.paths.proofs.AllBelow.{so-far-more}
 use Rattle.paths.proofs.NoneBelow.{NoneBelow, none-passes}
+use Rattle.paths.proofs.PathsPart.{parts-row}
 use Rattle.paths.proofs.SameNode.{same-node-goes-on, same-node-either}
-use Rattle.candidates.proofs.NothingBetter.{NoBetter, no-better-place, place-no-better, path-keeps, lines-searched}
+use Rattle.candidates.proofs.NothingBetter.{NoBetter, no-better-place, place-no-better, earlier-no-better}
 
 -- One node
 
@@ -37,16 +38,15 @@ one-node l [] qs part meet = absurd (false≢true part)
 one-node l (p ∷ ps) [] part meet = absurd (false≢true part)
 one-node zero (p ∷ ps) (q ∷ qs) part meet = record {
   rows-above = refl;
-  weight-is = eqb-true _ _ (and-eq-true-iff (eqb (p .weight) (q .weight)) (not (eqb (p .edge) (q .edge)) || parts ps qs) .0 part .0);
+  weight-is = parts-row p ps q qs part .0;
 }
 one-node (suc l) (p ∷ ps) (q ∷ qs) part meet =
-    let parted = and-eq-true-iff (eqb (p .weight) (q .weight)) (not (eqb (p .edge) (q .edge)) || parts ps qs) .0 part in
+    let parted = parts-row p ps q qs part in
     let met = and-eq-true-iff (eqb (p .edge) (q .edge)) (same-node l ps qs) .0 meet in
-    let weights = eqb-true (p .weight) (q .weight) (parted .0) in
     let edges = eqb-true (p .edge) (q .edge) (met .0) in
-    let later = one-node l ps qs (rw (met .0) at (parted .1)) (met .1) in
+    let later = one-node l ps qs (parted .1 edges) (met .1) in
     record {
-      rows-above = λ i. record { weight = weights i; edge = edges i } ∷ later .rows-above i;
+      rows-above = λ i. record { weight = parted .0 i; edge = edges i } ∷ later .rows-above i;
       weight-is = later .weight-is;
     }
 
@@ -92,7 +92,7 @@ seen-no-better rows p L l is-legal below reached seen =
     let M = found .0 in
     let row-there = same-node-goes-on l (path-at rows M) (path-at rows L) (found .2) .0 in
     let part = parts-where-met l (path-at rows M) (path-at rows L) (legal-together rows is-legal L below M (found .1)) (found .2) in
-    let searched = path-keeps (path-at rows) p _ _ L l (lines-searched (path-at rows) p L M l (found .1) row-there) in
+    let searched = earlier-no-better (path-at rows) p L l M l (found .1) row-there in
     rw (reached .best-is)
     (same-offer (path-at rows) p M L l (one-node l (path-at rows M) (path-at rows L) part (found .2)) (found .2) _ searched)
 

@@ -1,4 +1,4 @@
--- What the searches of this crate answer, as the definitions over paths have it (crate tree, specs/Paths.antt).
+-- What the searches of this crate answer, as the definitions over paths have it (crate paths, specs/Rules.antt).
 -- Assumes nothing.
 use Prim.Native.Nat.{ℕ, _≤_}
 use mathlib.Core.Path.{_≡_}

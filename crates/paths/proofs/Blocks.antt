@@ -37,6 +37,10 @@ unfolding row-at row-in
 row-at-in-block rows L k within =
     cc (number-in-block rows L (2 * k) (omega arith), number-in-block rows L (2 * k + 1) (omega arith), add-assoc (22 * L) (2 * k) 1)
 
+pub row-at-by-block : (a b : List ℕ) (L : ℕ) → block a L ≡ block b L → (k : ℕ) → k < 11 → row-at a L k ≡ row-at b L k
+row-at-by-block a b L same k within =
+    row-at-in-block a L k within ∙ ap (λ (x : List ℕ). row-in x k) same ∙ sym (row-at-in-block b L k within)
+
 -- where the block is a path's, so are the rows
 pub row-at-of-block : (rows : List ℕ) (L : ℕ) (rs : List Row) → block rows L ≡ numbers (rows-11 rs) → (k : ℕ) → k < 11 → row-at rows L k ≡ row-of k rs
 row-at-of-block rows L rs here k within =

@@ -13,4 +13,9 @@ pub mod RowLaws
 pub mod RangeLaws
 -- The whole record
 pub mod Blocks
+pub mod SplitLines
 pub mod LegalLines
+-- The product and the sum along a path
+pub mod PathNumbers
+-- The search over the paths
+pub mod PickedSpots

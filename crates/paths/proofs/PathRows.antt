@@ -40,7 +40,7 @@ module _ (rows : List ℕ) (L : ℕ) where
     pub weight-in-path : row-at rows L k .weight ≡ 0 → ⊥
     weight-in-path = weight-of-rest k below rest-of-path
 
-    pub row-left : path-rest rows L k ≡ row-at rows L k ∷ path-rest rows L (k + 1)
+    row-left : path-rest rows L k ≡ row-at rows L k ∷ path-rest rows L (k + 1)
     row-left = path-rest-row rows L k (within-path below) refl weight-in-path
 
     pub row-in-path : row-of k (path-at rows L) ≡ row-at rows L k

@@ -1,12 +1,13 @@
--- The invariant of `parts`'s loop: two paths part exactly where what is left of them does.
+-- Laws of `parts`, and the invariant of its loop: two paths part exactly where what is left of them does.
 -- Assumes nothing.
 use Prim.Native.Nat.{ℕ, _+_, _<_, _≤_, zero-le}
 use native.Mathlib.Omega.{arith}
 use mathlib.Core.Path.{_≡_, refl, sym, _∙_}
 use mathlib.Core.Logic.{_⊎_, inl, inr}
-use mathlib.Core.Bool.{true, false}
+use mathlib.Core.Bool.{true, false, and-eq-true-iff}
 use mathlib.Core.List.{List, [], _∷_}
-use borrow.Author.Tests.{eq-eqb, ne-eqb}
+use lib.Dec.{eqb}
+use borrow.Author.Tests.{eqb-true, eq-eqb, ne-eqb}
 use Rattle.tree.specs.declared.Row.{Row}
 use Rattle.tree.specs.Record.{row-at, path-at, parts}
 use Rattle.paths.proofs.PathRest.{zero-or-not, path-rest, path-rest-start, path-rest-row, path-rest-end, path-rest-none}
@@ -20,6 +21,13 @@ pub parts-none : (ps : List Row) → parts ps [] ≡ false
 unfolding parts
 parts-none [] = refl
 parts-none (p ∷ ps) = refl
+
+-- two paths that part have one weight, and part below where they take the same edge
+pub parts-row : (p : Row) (ps : List Row) (q : Row) (qs : List Row) → parts (p ∷ ps) (q ∷ qs) ≡ true → (p .weight ≡ q .weight) × (p .edge ≡ q .edge → parts ps qs ≡ true)
+unfolding parts
+parts-row p ps q qs h =
+    let both = and-eq-true-iff (eqb (p .weight) (q .weight)) _ .0 h in
+    (eqb-true _ _ (both .0), λ same. rw (eq-eqb (p .edge) (q .edge) same) at (both .1))
 
 pub alike-start : (rows : List ℕ) (a b : ℕ) → Alike rows a b 0
 alike-start rows a b = record { within = zero-le; same = rw (path-rest-start rows a, path-rest-start rows b) }

@@ -4,13 +4,13 @@
 use Prim.Native.Nat.{ℕ, _+_, _*_, _/_, _%_, _<_, _≤_}
 use native.Mathlib.Omega.{arith}
 use native.Mathlib.Decide.{decLt, ℕ-discrete}
-use native.Mathlib.Nat.{mul-assoc, mul-one, mul-zero, add-zero, mod-lt, mul-le-mul-left, le-antisymm}
+use native.Mathlib.Nat.{mul-assoc, mul-one, mul-zero, add-zero, mod-lt, mul-le-mul-left}
 use mathlib.Core.Path.{_≡_, refl, sym, _∙_, ap, subst, subst₂}
 use mathlib.Core.Logic.{_⊎_, inl, inr}
 use mathlib.Core.Bool.{Bool, true, false, true≢false}
 use borrow.Author.Tests.{eq-eqb, ne-eqb}
 use Rattle.tree.specs.Tree.{Tree, nothing, line, node, present, is-open}
-use Rattle.tree.specs.Standing.{UnderEdge, Stands}
+use Rattle.tree.specs.Standing.{Stands}
 use Rattle.tree.specs.Shape.{Edges, LegalUnder}
 use Rattle.tree.specs.Opening.{free, group, split, put, one-edge, newcomer}
 use Rattle.tree.proofs.Digits.{digit-high, digits-of}
@@ -20,7 +20,7 @@ use Rattle.tree.proofs.Proper.{nothing-open, one-edge-edges}
 use Rattle.tree.proofs.Classes.{free-absent, taken-present, beyond-free}
 use Rattle.tree.proofs.UnderEdge.{stands-present}
 use Rattle.tree.proofs.Standing.{stands-open, open-stands, not-open-below}
-use Rattle.tree.proofs.Split.{group-nothing, group-node, split-groups, split-whole, divisor-at-most, quotient-below, split-in-class, class-in-split}
+use Rattle.tree.proofs.Split.{group-nothing, group-node, split-groups, split-whole, divisor-is-weight, quotient-below, split-in-class, class-in-split}
 
 -- what a booking of line L with period d·q into class i of a node of weight w rests on
 pub record Room (d q w : ℕ) (f : ℕ → Tree) (i : ℕ) : Type 0 where
@@ -64,12 +64,9 @@ abbrev pub booked-edges : ℕ → ℕ → ℕ → ℕ → (ℕ → Tree) → ℕ
 booked-edges L d q w f i = put i (newcomer L q) (split d w f)
 
 module _ (L d q w : ℕ) (f : ℕ → Tree) (i : ℕ) (room : Room d q w f i) where
-  -- a line that stood in the node is not in the free class
-  not-in-class : (K p u : ℕ) (h : UnderEdge w p u (λ e p s. Stands K (f e) p s)) → h .edge % d ≡ i → ⊥
-  not-in-class K p u h class =
-      true≢false
-      (sym (stands-present K (f (h .edge)) (h .period) (h .start) (h .stands))
-      ∙ free-absent d w f i (h .edge) (room .class-free) (h .edge-below) class)
+  -- what stood in the node is not in the free class
+  pub not-in-class : (e : ℕ) → e < w → present (f e) ≡ true → e % d ≡ i → ⊥
+  not-in-class e below here class = true≢false (sym here ∙ free-absent d w f i e (room .class-free) below class)
 
   pub stands-with-line : (K p u : ℕ) → Stands K (node w f) p u → Stands K (node d (booked-edges L d q w f i)) p u
   unfolding Stands
@@ -77,7 +74,7 @@ module _ (L d q w : ℕ) (f : ℕ → Tree) (i : ℕ) (room : Room d q w f i) wh
       let x = class-in-split K d w f (room .weight-positive) (room .divides-weight) p u (room .divisor-positive) h in
       stands-put-other K d i (newcomer L q) (split d w f) p u (record {
         in-node = under-put-edge x (x .stands);
-        other-edge = not-in-class K p u h;
+        other-edge = not-in-class (h .edge) (h .edge-below) (stands-present K (f (h .edge)) (h .period) (h .start) (h .stands));
       })
 
   pub new-line-stands : Stands L (node d (booked-edges L d q w f i)) (d * q) i
@@ -184,7 +181,7 @@ module _ (d w : ℕ) (f : ℕ → Tree) (divides : d * (w / d) ≡ w) where
         | yes small ↦ rw (split-groups d w f small) (group-legal m k positive small legal)
         | no not-small ↦
             let two = legal .0 in
-            let whole : d ≡ w = le-antisymm (divisor-at-most d w (omega arith) divides) (omega arith) in
+            let whole = divisor-is-weight d w (omega arith) divides not-small in
             rw (split-whole d w f (omega arith), whole) (legal .2 k)
       ]
 

@@ -34,13 +34,17 @@ module _ (d w : ℕ) (f : ℕ → Tree) where
   unfolding split
   split-whole h = rw (le-ltb d w h)
 
--- a divisor is at most the weight, so one that is not below it is the weight
-pub divisor-at-most : (d w : ℕ) → 0 < w → d * (w / d) ≡ w → d ≤ w
+-- a divisor is at most the weight
+divisor-at-most : (d w : ℕ) → 0 < w → d * (w / d) ≡ w → d ≤ w
 divisor-at-most d w positive divides = go (eq-zero-or-pos (w / d))
   where
     go : (w / d ≡ 0) ⊎ (0 < w / d) → d ≤ w
     go (inl z) = let w0 : w ≡ 0 = sym divides ∙ ap (λ (n : ℕ). d * n) z ∙ mul-zero d in absurd (omega arith)
     go (inr h) = subst (λ (n : ℕ). d ≤ n) divides (le-mul-of-pos-right d h)
+
+-- so one that is not below the weight is the weight
+pub divisor-is-weight : (d w : ℕ) → 0 < w → d * (w / d) ≡ w → (d < w → ⊥) → d ≡ w
+divisor-is-weight d w positive divides not-small = le-antisymm (divisor-at-most d w positive divides) (omega arith)
 
 -- an edge below the weight goes to an edge below the groups' weight
 pub quotient-below : (d w e : ℕ) → 0 < d → d * (w / d) ≡ w → e < w → e / d < w / d
@@ -92,7 +96,7 @@ module _ (K d w : ℕ) (f : ℕ → Tree) (weight-positive : 0 < w) (divides : d
       elim (decLt d w) [
         | yes small ↦ groups-in-class k p s k-below (rw (split-groups d w f small) at h)
         | no not-small ↦
-            let whole : d ≡ w = le-antisymm (divisor-at-most d w weight-positive divides) (omega arith) in
+            let whole = divisor-is-weight d w weight-positive divides not-small in
             record {
               in-node =
                   record {
@@ -144,7 +148,7 @@ module _ (K d w : ℕ) (f : ℕ → Tree) (weight-positive : 0 < w) (divides : d
         elim (decLt d w) [
           | yes small ↦ rw (split-groups d w f small) (class-in-groups h)
           | no not-small ↦
-              let whole : d ≡ w = le-antisymm (divisor-at-most d w weight-positive divides) (omega arith) in
+              let whole = divisor-is-weight d w weight-positive divides not-small in
               let same : e % d ≡ e = mod-eq-of-lt (subst (λ (n : ℕ). e < n) (sym whole) (h .edge-below)) in
               record {
                 edge-below = mod-lt e positive;

@@ -7,7 +7,7 @@ use native.Mathlib.Nat.{mul-one, one-mul, mul-add, mul-assoc, mul-comm, mul-zero
 use mathlib.Core.Path.{_≡_, refl, sym, _∙_, ap, ap₂}
 use mathlib.Core.Bool.{Bool, true, false, true≢false}
 use mathlib.Core.List.{List, [], _∷_}
-use mathlib.Core.Option.{Option, none, some, Option·map, Option·some-ne-none, Option·none-ne-some}
+use mathlib.Core.Option.{Option, none, some, Option·some-ne-none, Option·none-ne-some, map-eq-none-iff, map-eq-some-iff}
 use lib.Dec.{eqb}
 use borrow.Author.Tests.{eqb-true, eq-eqb}
 use Rattle.tree.specs.declared.Row.{Row}
@@ -43,14 +43,6 @@ path-of-line L n rs h = go (eqb n L) refl h
     go true e k = (eqb-true n L e, (cc))
     go false e k = absurd (Option·none-ne-some rs k)
 
-pub map-some : {A B : Type 0} (g : A → B) (o : Option A) (b : B) → Option·map g o ≡ some b → (a : A) × (o ≡ some a) × (b ≡ g a)
-map-some g none b h = absurd (Option·none-ne-some b h)
-map-some g (some a) b h = (a, refl, (cc))
-
-pub map-none : {A B : Type 0} (g : A → B) (o : Option A) → Option·map g o ≡ none → o ≡ none
-map-none g none h = refl
-map-none g (some a) h = absurd (Option·some-ne-none (g a) h)
-
 -- the path of a line through a node: the edge taken there, and the rows below it
 pub record PathBelow (L w : ℕ) (f : ℕ → Tree) (rs : List Row) : Type 0 where
   pub edge : ℕ
@@ -63,13 +55,13 @@ pub path-below : (L w : ℕ) (f : ℕ → Tree) (rs : List Row) → path L (node
 unfolding path
 path-below L w f rs h =
     let x = first-some w _ rs h in
-    let below = map-some (_∷_ (row w (x .index))) (path L (f (x .index))) rs (x .offers) in
+    let below = map-eq-some-iff (_∷_ (row w (x .index))) (path L (f (x .index))) .0 (x .offers) in
     record {
       edge = x .index;
       rest = below .0;
       edge-below = x .index-below;
       path-is = below .1;
-      rows-are = below .2;
+      rows-are = sym (below .2);
     }
 
 -- a line with this path stands with the product of its weights for a period and equation 6's sum for a start
@@ -104,7 +96,7 @@ path-found L (line n) q u h e =
     Option·some-ne-none {A = List Row} [] (sym (ap (λ (b : Bool). if b then some [] else none) (eq-eqb n L (h .0))) ∙ e)
 path-found L (node w f) q u h e =
     path-found L (f (h .edge)) (h .period) (h .start) (h .stands)
-    (map-none (_∷_ (row w (h .edge))) (path L (f (h .edge))) (first-none w _ e (h .edge) (h .edge-below)))
+    (map-eq-none-iff (_∷_ (row w (h .edge))) (path L (f (h .edge))) .0 (first-none w _ e (h .edge) (h .edge-below)))
 path-found L nothing q u h e = h
 
 pub stands-open : (L : ℕ) (t : Tree) (q u : ℕ) → Stands L t q u → is-open L t ≡ true

@@ -1,4 +1,4 @@
--- `asking::times_of` meets its contract. The invariant: the product and the sum of the rows passed, with those of the rows left, are the line's (`Carried`).
+-- `asking::times_of` meets its contract. The invariant: the product and the sum of the rows passed (`Carried`).
 -- The measure is how many rows are left. In a legal record no product and no sum on the way is above 4,095.
 -- Assumes nothing.
 use Prim.Native.Nat.{_+_, _*_, _-_, _<_, _≤_}
@@ -9,7 +9,7 @@ use borrow.Author.Needs.{needs}
 use denote.Ref.{now}
 use Rattle.tree.specs.Record.{path-at}
 use Rattle.paths.proofs.PathRows.{within-path}
-use Rattle.asking.proofs.PathTimes.{Carried, carried-start, carried-row, carried-all, carried-small}
+use Rattle.paths.proofs.PathNumbers.{Carried, carried-start, carried-row, carried-all, carried-small}
 use Rattle.asking.proofs.times_of.Statement.{statement}
 use Rattle.asking.proofs.times_of.Tie as tie
 
