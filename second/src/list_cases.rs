@@ -2,9 +2,9 @@
 //! refusal that a list can give, malformed orders, marked cases, and the longest list, as a
 //! script (`list_script.rs`).
 
-use crate::list_script::{answer_bytes, owners, Step, MOST_ROOM};
+use crate::list_script::{owners, Step, MOST_ROOM};
 use crate::long_list::{self, MOST_ORDERS};
-use crate::orders::{pack, LONGEST_LIST, ORDER_BYTES};
+use crate::orders::{answers_length, pack, LONGEST_LIST, ORDER_BYTES};
 use crate::shapes::Shape;
 use std::collections::BTreeSet;
 
@@ -37,7 +37,7 @@ fn close(line: u64) -> OrderBytes {
 /// Gives the orders and runs them, with so many bytes lent beyond the answers.
 fn run_all(orders: &[OrderBytes], beyond: usize) -> [Step; 2] {
     let length = orders.len() * ORDER_BYTES;
-    let room = answer_bytes(length) + beyond;
+    let room = answers_length(length) + beyond;
     [Step::Give(orders.concat()), Step::List { length, room }]
 }
 
@@ -50,7 +50,7 @@ fn bad_lengths() -> Vec<Step> {
     for length in [
         1, 2, 4, 5, 65_534, 65_536, 65_537, 65_538, 65_539, 99_999, 100_000,
     ] {
-        let enough = answer_bytes(length);
+        let enough = answers_length(length);
         for room in BTreeSet::from([0, enough / 2, enough, enough + 6]) {
             steps.push(Step::List { length, room });
         }
@@ -66,7 +66,7 @@ fn rooms() -> Vec<Step> {
     for count in [1, 2, 5] {
         steps.push(Step::Give(orders[..count].concat()));
         let length = count * ORDER_BYTES;
-        let enough = answer_bytes(length);
+        let enough = answers_length(length);
         for room in BTreeSet::from([0, 1, enough - 1]) {
             steps.push(Step::List { length, room });
         }
@@ -99,13 +99,7 @@ fn empty_lists() -> Vec<Step> {
 fn lists_in_turn() -> Vec<Step> {
     let opens = [open(1, 6), open(2, 2), open(3, 12)];
     let refused = [open(1, 5), close(2), open(4, 5), [0x83, 0x00, 0x00]];
-    let lists: [&[OrderBytes]; 5] = [
-        &opens,
-        &[close(2)],
-        &refused,
-        &[close(3), close(1)],
-        &opens,
-    ];
+    let lists: [&[OrderBytes]; 5] = [&opens, &[close(2)], &refused, &[close(3), close(1)], &opens];
     let mut steps = vec![Step::Begin];
     for orders in lists {
         steps.extend(run_all(orders, 1));
@@ -259,10 +253,10 @@ fn marked_cases() -> Vec<Step> {
 fn longest_list() -> Vec<Step> {
     let list = long_list::generate(1, MOST_ORDERS, Shape::Full);
     let length = LONGEST_LIST;
-    let room = answer_bytes(length) - 1;
+    let room = answers_length(length) - 1;
     let mut steps = vec![Step::Begin, Step::Give(list), Step::List { length, room }];
     steps.extend(owners(0..4));
-    let room = answer_bytes(length) + 3;
+    let room = answers_length(length) + 3;
     steps.push(Step::List { length, room });
     let length = LONGEST_LIST + ORDER_BYTES;
     steps.push(Step::List { length, room });
@@ -332,11 +326,11 @@ mod tests {
             beyond 3 ee ee ee\nnumber 0 4096\nowner 0 idle\n\
             list 18 11 8\nbeyond 11 ee ee ee ee ee ee\nnumber 0 4096\n\
             list 17 12 7\nbeyond 12 ee ee ee ee ee ee\nnumber 0 4096\n\
-            list 9 6 0\n4000 0000 0001\nbeyond 0\nnumber 0 -\n\
+            list 9 6 0\n4000 0000 0001\nbeyond 0\nnumber 0 0\n\
             owner 0 1\nowner 1 2\nowner 2 idle\n";
         assert!(parts[0].contains(refused), "{}", parts[0]);
         let emptied = "number 5 9999\nnumber 700 4096\nlist 9 7 0\n0000 0000 2000\n\
-            beyond 1 ee\nnumber 5 -\nnumber 700 -\nowner 0 idle\n";
+            beyond 1 ee\nnumber 5 0\nnumber 700 0\nowner 0 idle\n";
         assert!(parts[7].contains(emptied), "{}", parts[7]);
         let text = printed(&empty_lists());
         assert!(text.ends_with(

@@ -13,29 +13,26 @@
 //! The plan that a list leaves is the plan of the next step.
 //!
 //! What is printed, words parted by one space:
-//! `plan`; `write PLACE NUMBER`; `number PLACE NUMBER`, with `-` for a number up to 4,095;
-//! `owner ROUND LINE`, or `idle` for the line; nothing for bytes that are given.
+//! `plan`; `write PLACE NUMBER`; `number PLACE NUMBER`; `owner ROUND LINE`, or `idle` for
+//! the line; nothing for bytes that are given.
 //! A list prints `list LENGTH ROOM RESULT`; if it was not refused, the two answer bytes of
 //! each order in hexadecimal, 16 orders to a line; then `beyond COUNT BYTES`, where COUNT
 //! says how many of the lent bytes after the answers (of a refused list: of all) are EE,
 //! and BYTES are the first of them, at most 6, in hexadecimal.
 //!
-//! A number that is written is above 4,095, which no weight and no edge is: whatever its
-//! place, the record is then no tree and counts as the empty plan. It stays in the record
+//! A number that is written may leave the record a tree, the same or another, or make it
+//! none, which counts as the empty plan: `record.rs` says which. It stays in the record
 //! until an order is carried out, since a refused one leaves the plan as it was.
 
 use crate::ask::owner;
 use crate::lists;
-use crate::orders::{run, ANSWER_BYTES, ORDER_BYTES};
+use crate::orders::{answers_length, ANSWER_BYTES};
 use crate::random::Random;
+use crate::record::{drawn_write, Held};
 use crate::refusal::Refusal;
 use crate::shapes::Shape;
-use crate::tree::{Plan, LAST_PERIOD};
-use std::collections::BTreeMap;
 use std::io::{self, Write};
 
-/// Numbers in a record: 64 lines of 11 rows of weight and edge.
-const RECORD_NUMBERS: u64 = 1_408;
 /// Bytes of a step without those that are given.
 const HEAD_BYTES: usize = 17;
 /// The longest list that a script can run, and the most bytes that it can give.
@@ -50,7 +47,7 @@ const BYTES_SHOWN_BEYOND: usize = 6;
 #[derive(Clone, Debug, PartialEq, Eq)]
 pub enum Step {
     Begin,
-    Write { place: u64, number: u64 },
+    Write { place: u64, number: u16 },
     Number { place: u64 },
     Owner { round: u64 },
     Give(Vec<u8>),
@@ -61,7 +58,7 @@ impl Step {
     fn write(&self, out: &mut impl Write) -> io::Result<()> {
         let (kind, first, second) = match *self {
             Step::Begin => (0, 0, 0),
-            Step::Write { place, number } => (1, place, number),
+            Step::Write { place, number } => (1, place, number.into()),
             Step::Number { place } => (2, place, 0),
             Step::Owner { round } => (3, round, 0),
             Step::Give(ref bytes) => (4, bytes.len() as u64, 0),
@@ -89,7 +86,7 @@ impl Step {
             0 => Step::Begin,
             1 => Step::Write {
                 place: first,
-                number: second,
+                number: u16::try_from(second).ok()?,
             },
             2 => Step::Number { place: first },
             3 => Step::Owner { round: first },
@@ -117,81 +114,62 @@ pub fn write(steps: &[Step], out: &mut impl Write) -> io::Result<()> {
     steps.iter().try_for_each(|step| step.write(out))
 }
 
-/// A plan, and the numbers in its record that no tree has.
-#[derive(Default)]
-struct Record {
-    plan: Plan,
-    written: BTreeMap<u64, u64>,
-}
-
 /// Carries a script out. A step of an unknown kind, or one that is cut off, ends it.
 pub fn print_answers(script: &[u8], out: &mut impl Write) -> io::Result<()> {
-    let mut record = Record::default();
+    let mut held = Held::empty();
     let mut given = vec![0];
     let mut rest = script;
     while let Some((step, after)) = Step::read(rest) {
         match step {
             Step::Give(bytes) => given = bytes,
-            step => record.print_step(step, &given, out)?,
+            step => print_step(&mut held, step, &given, out)?,
         }
         rest = after;
     }
     Ok(())
 }
 
-impl Record {
-    fn print_step(&mut self, step: Step, given: &[u8], out: &mut impl Write) -> io::Result<()> {
-        match step {
-            Step::Begin => {
-                *self = Record::default();
-                writeln!(out, "plan")
-            }
-            Step::Write { place, number } => {
-                assert!(number > LAST_PERIOD, "the record may be a tree");
-                self.plan = Plan::empty();
-                self.written.insert(place, number);
-                writeln!(out, "write {place} {number}")
-            }
-            Step::Number { place } => {
-                let number = self.written.get(&place).map(u64::to_string);
-                writeln!(out, "number {place} {}", number.unwrap_or("-".to_string()))
-            }
-            Step::Owner { round } => {
-                let line = owner(&self.plan, round).map(|line| line.to_string());
-                writeln!(out, "owner {round} {}", line.unwrap_or("idle".to_string()))
-            }
-            Step::Give(_) => Ok(()),
-            Step::List { length, room } => {
-                let list: Vec<u8> = given.iter().copied().cycle().take(length).collect();
-                self.print_list(&list, room, out)
-            }
+fn print_step(held: &mut Held, step: Step, given: &[u8], out: &mut impl Write) -> io::Result<()> {
+    match step {
+        Step::Begin => {
+            *held = Held::empty();
+            writeln!(out, "plan")
         }
-    }
-
-    fn print_list(&mut self, list: &[u8], room: usize, out: &mut impl Write) -> io::Result<()> {
-        let mut lent = vec![UNTOUCHED; room];
-        let result = run(&mut self.plan, list, &mut lent);
-        let answered = match result {
-            Ok(()) => list.len() / ORDER_BYTES * ANSWER_BYTES,
-            Err(_) => 0,
-        };
-        let (answers, beyond) = lent.split_at(answered);
-        if answers.chunks(ANSWER_BYTES).any(carried_out) {
-            self.written.clear();
+        Step::Write { place, number } => {
+            held.write(place, number);
+            writeln!(out, "write {place} {number}")
         }
-        let number = result.map_or_else(Refusal::number, |()| 0);
-        writeln!(out, "list {} {room} {number}", list.len())?;
-        for line in answers.chunks(ANSWERS_IN_A_LINE * ANSWER_BYTES) {
-            let words: Vec<String> = line.chunks(ANSWER_BYTES).map(hexadecimal).collect();
-            writeln!(out, "{}", words.join(" "))?;
+        Step::Number { place } => {
+            let number = held.record.number(place as usize);
+            writeln!(out, "number {place} {number}")
         }
-        print_beyond(beyond, out)
+        Step::Owner { round } => {
+            let line = owner(&held.plan, round).map(|line| line.to_string());
+            writeln!(out, "owner {round} {}", line.unwrap_or("idle".to_string()))
+        }
+        Step::Give(_) => Ok(()),
+        Step::List { length, room } => {
+            let list: Vec<u8> = given.iter().copied().cycle().take(length).collect();
+            print_list(held, &list, room, out)
+        }
     }
 }
 
-/// Result 0, in the first 4 bits (Orders, 4).
-fn carried_out(answer: &[u8]) -> bool {
-    answer[0] >> 4 == 0
+fn print_list(held: &mut Held, list: &[u8], room: usize, out: &mut impl Write) -> io::Result<()> {
+    let mut lent = vec![UNTOUCHED; room];
+    let result = held.run(list, &mut lent);
+    let answered = match result {
+        Ok(()) => answers_length(list.len()),
+        Err(_) => 0,
+    };
+    let (answers, beyond) = lent.split_at(answered);
+    let number = result.map_or_else(Refusal::number, |()| 0);
+    writeln!(out, "list {} {room} {number}", list.len())?;
+    for line in answers.chunks(ANSWERS_IN_A_LINE * ANSWER_BYTES) {
+        let words: Vec<String> = line.chunks(ANSWER_BYTES).map(hexadecimal).collect();
+        writeln!(out, "{}", words.join(" "))?;
+    }
+    print_beyond(beyond, out)
 }
 
 fn hexadecimal(bytes: &[u8]) -> String {
@@ -208,28 +186,29 @@ fn print_beyond(beyond: &[u8], out: &mut impl Write) -> io::Result<()> {
 }
 
 /// Lists drawn as for `lists`, each on the plan that the one before it left, every fourth
-/// on an empty plan and every sixth on a damaged record. Every third is run too short and
-/// with too little room first. After each list its plan's owners are asked.
+/// on an empty plan, and every third after a number of the record was written over. Every
+/// third is run too short and with too little room first. After each list a number of the
+/// record and the plan's owners are asked.
 pub fn generated(seed: u64, count: u64, shape: Shape) -> Vec<Step> {
     let mut random = Random::new(seed);
-    let mut plan = Plan::empty();
+    let mut held = Held::empty();
     let mut steps = vec![Step::Begin];
     for _ in 0..count {
         if random.below(4) == 0 {
-            plan = Plan::empty();
+            held = Held::empty();
             steps.push(Step::Begin);
         }
-        let place = random.below(RECORD_NUMBERS);
-        if random.below(6) == 0 {
-            plan = Plan::empty();
-            let number = LAST_PERIOD + 1 + random.below(61_440);
+        let (place, number) = drawn_write(&held.record, &mut random);
+        if random.below(3) == 0 {
+            held.write(place, number);
             steps.push(Step::Write { place, number });
         }
         let list = lists::generate(shape, &mut random);
         steps.extend(attempts(&list, &mut random));
-        run(&mut plan, &list, &mut vec![0; list.len()]).expect("the list is short and whole");
+        held.run(&list, &mut vec![0; list.len()])
+            .expect("the list is short and whole");
         steps.push(Step::Number { place });
-        steps.extend(owners(lists::rounds(&plan, &mut random)));
+        steps.extend(owners(lists::rounds(&held.plan, &mut random)));
     }
     steps
 }
@@ -237,7 +216,7 @@ pub fn generated(seed: u64, count: u64, shape: Shape) -> Vec<Step> {
 /// The list, perhaps after attempts that are refused.
 fn attempts(list: &[u8], random: &mut Random) -> Vec<Step> {
     let length = list.len();
-    let answers = answer_bytes(length);
+    let answers = answers_length(length);
     let room = answers + random.pick(&[0, 0, 1, 2, 5, 200]);
     let mut steps = Vec::new();
     if length > 0 {
@@ -251,11 +230,6 @@ fn attempts(list: &[u8], random: &mut Random) -> Vec<Step> {
     }
     steps.push(Step::List { length, room });
     steps
-}
-
-/// Of a list that is so many bytes long.
-pub(crate) fn answer_bytes(length: usize) -> usize {
-    length / ORDER_BYTES * ANSWER_BYTES
 }
 
 pub(crate) fn owners(rounds: impl IntoIterator<Item = u64>) -> impl Iterator<Item = Step> {

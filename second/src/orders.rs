@@ -10,6 +10,11 @@ pub const ORDER_BYTES: usize = 3;
 /// Per order (Orders, 4).
 pub const ANSWER_BYTES: usize = 2;
 
+/// How many answer bytes a list of so many bytes has.
+pub(crate) fn answers_length(length: usize) -> usize {
+    length / ORDER_BYTES * ANSWER_BYTES
+}
+
 /// The four bit fields of an order, before any check (Orders, 1).
 #[derive(Clone, Copy, Debug, PartialEq, Eq)]
 pub struct Fields {

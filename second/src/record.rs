@@ -4,7 +4,10 @@
 //! line after the other under the nodes that its rows name.
 
 use crate::ask::{show, Row, ROWS};
-use crate::tree::{Node, Plan, Under, LAST_LINE, LAST_PERIOD};
+use crate::orders::{answers_length, run, ANSWER_BYTES};
+use crate::random::Random;
+use crate::refusal::Refusal;
+use crate::tree::{Node, Plan, Start, Under, LAST_LINE, LAST_PERIOD};
 use std::collections::BTreeMap;
 
 /// Numbers of one line.
@@ -58,6 +61,83 @@ impl Record {
         }
         Some(Plan { root })
     }
+}
+
+/// What a script works on: a record, and the plan that it is. A call that is not refused
+/// leaves the record of its plan, a refused one leaves the record as found.
+pub struct Held {
+    pub record: Record,
+    pub plan: Plan,
+}
+
+impl Held {
+    pub fn empty() -> Held {
+        Held {
+            record: Record::of(&Plan::empty()),
+            plan: Plan::empty(),
+        }
+    }
+
+    pub fn open(&mut self, line: u64, period: u64) -> Result<Start, Refusal> {
+        let start = self.plan.open(line, period)?;
+        self.record = Record::of(&self.plan);
+        Ok(start)
+    }
+
+    pub fn close(&mut self, line: u64) -> Result<(), Refusal> {
+        self.plan.close(line)?;
+        self.record = Record::of(&self.plan);
+        Ok(())
+    }
+
+    /// Runs a list. The record is as found where no order was carried out.
+    pub fn run(&mut self, list: &[u8], answers: &mut [u8]) -> Result<(), Refusal> {
+        let before = self.plan.clone();
+        run(&mut self.plan, list, answers)?;
+        let count = answers_length(list.len());
+        let carried = answers[..count].chunks(ANSWER_BYTES).any(carried_out);
+        assert!(
+            carried || self.plan == before,
+            "a refused order changed the plan"
+        );
+        if carried {
+            self.record = Record::of(&self.plan);
+        }
+        Ok(())
+    }
+
+    pub fn write(&mut self, place: u64, number: u16) {
+        self.record.write(place as usize, number);
+        self.plan = self.record.plan();
+    }
+}
+
+/// Result 0, in the first 4 bits (Orders, 4).
+fn carried_out(answer: &[u8]) -> bool {
+    answer[0] >> 4 == 0
+}
+
+/// A place of a record and a number to be written there: a number that no tree has, one in
+/// range anywhere, or another weight or edge in a row that is in use.
+pub fn drawn_write(record: &Record, random: &mut Random) -> (u64, u16) {
+    let used: Vec<usize> = (0..RECORD_NUMBERS)
+        .step_by(2)
+        .filter(|&place| record.number(place) != 0)
+        .collect();
+    let anywhere = random.below(RECORD_NUMBERS as u64);
+    let kind = random.below(5);
+    if kind == 0 {
+        return (anywhere, random.pick(&[4_096, 65_535]));
+    }
+    if kind == 1 || used.is_empty() {
+        return (anywhere, random.below(LAST_PERIOD + 1) as u16);
+    }
+    let place = random.pick(&used);
+    let weight = record.number(place);
+    if kind == 2 {
+        return (place as u64, random.below(2 * u64::from(weight)) as u16);
+    }
+    (place as u64 + 1, random.below(u64::from(weight)) as u16)
 }
 
 fn node(row: Row) -> Node {

@@ -22,10 +22,10 @@ use crate::ask::{owner, show, turns, Shown};
 use crate::lists;
 use crate::orders::{read, Order, ORDER_BYTES};
 use crate::random::Random;
-use crate::record::{Record, RECORD_NUMBERS};
+use crate::record::{drawn_write, Held, RECORD_NUMBERS};
 use crate::refusal::Refusal;
 use crate::shapes::Shape;
-use crate::tree::{Plan, Start, LAST_PERIOD};
+use crate::tree::{Plan, Start};
 use crate::walker::{walk, walk_lent, Answer, Place};
 use std::io::{self, Write};
 
@@ -149,48 +149,27 @@ pub fn generated(seed: u64, count: u64, shape: Shape) -> Vec<Step> {
         steps.push(Step::Begin);
         for order in lists::generate(shape, &mut random).chunks_exact(ORDER_BYTES) {
             let step = step_of([order[0], order[1], order[2]], &mut random);
-            held.change_by(step);
-            steps.extend(step);
+            if let Some(step) = step {
+                change(&mut held, step);
+                steps.push(step);
+            }
         }
         steps.extend(questions(18, &mut random));
         for _ in 0..3 {
             let changes = [
-                drawn_write(&held.record, &mut random),
+                written(drawn_write(&held.record, &mut random)),
                 Step::Close(random.below(64)),
                 Step::Open(random.below(64), 0),
                 Step::Open(random.below(64), 1 + random.below(4_095)),
             ];
             for step in changes {
-                held.change_by(Some(step));
+                change(&mut held, step);
                 steps.push(step);
                 steps.extend(questions(1, &mut random));
             }
         }
     }
     steps
-}
-
-/// A number that no tree has, one in range anywhere, or another edge or weight in a row
-/// that is in use.
-fn drawn_write(record: &Record, random: &mut Random) -> Step {
-    let used: Vec<usize> = (0..RECORD_NUMBERS)
-        .step_by(2)
-        .filter(|&place| record.number(place) != 0)
-        .collect();
-    let anywhere = random.below(RECORD_NUMBERS as u64);
-    let kind = random.below(5);
-    if kind == 0 {
-        return Step::Write(anywhere, random.pick(&[4_096, 65_535]));
-    }
-    if kind == 1 || used.is_empty() {
-        return Step::Write(anywhere, random.below(LAST_PERIOD + 1) as u16);
-    }
-    let place = random.pick(&used);
-    let weight = record.number(place);
-    if kind == 2 {
-        return Step::Write(place as u64, random.below(2 * u64::from(weight)) as u16);
-    }
-    Step::Write(place as u64 + 1, random.below(u64::from(weight)) as u16)
 }
 
 /// Owner, show, turns and walks, at rounds near 0, 2^32 and 2^64.
@@ -244,72 +223,44 @@ pub fn print_answers(script: &[u8], out: &mut impl Write) -> io::Result<()> {
         let Some(step) = bytes.try_into().ok().and_then(Step::of) else {
             break;
         };
-        held.print_step(step, out)?;
+        print_step(&mut held, step, out)?;
     }
     Ok(())
 }
 
-/// What a script works on: the record, and the plan that it is.
-struct Held {
-    record: Record,
-    plan: Plan,
+/// A step that changes the plan, without its answer.
+fn change(held: &mut Held, step: Step) {
+    match step {
+        Step::Open(line, period) => drop(held.open(line, period)),
+        Step::Close(line) => drop(held.close(line)),
+        Step::Write(place, number) => held.write(place, number),
+        _ => {}
+    }
 }
 
-impl Held {
-    fn empty() -> Held {
-        Held {
-            record: Record::of(&Plan::empty()),
-            plan: Plan::empty(),
+fn written((place, number): (u64, u16)) -> Step {
+    Step::Write(place, number)
+}
+
+fn print_step(held: &mut Held, step: Step, out: &mut impl Write) -> io::Result<()> {
+    match step {
+        Step::Open(line, period) => {
+            let answer = opened(held.open(line, period));
+            writeln!(out, "open {line} {period} {answer}")
         }
-    }
-
-    fn open(&mut self, line: u64, period: u64) -> Result<Start, Refusal> {
-        let start = self.plan.open(line, period)?;
-        self.record = Record::of(&self.plan);
-        Ok(start)
-    }
-
-    fn close(&mut self, line: u64) -> Result<(), Refusal> {
-        self.plan.close(line)?;
-        self.record = Record::of(&self.plan);
-        Ok(())
-    }
-
-    fn write(&mut self, place: u64, number: u16) {
-        self.record.write(place as usize, number);
-        self.plan = self.record.plan();
-    }
-
-    /// A step that changes the plan, without its answer.
-    fn change_by(&mut self, step: Option<Step>) {
-        match step {
-            Some(Step::Open(line, period)) => drop(self.open(line, period)),
-            Some(Step::Close(line)) => drop(self.close(line)),
-            Some(Step::Write(place, number)) => self.write(place, number),
-            _ => {}
+        Step::Close(line) => {
+            let result = number(held.close(line));
+            writeln!(out, "close {line} {result}")
         }
-    }
-
-    fn print_step(&mut self, step: Step, out: &mut impl Write) -> io::Result<()> {
-        match step {
-            Step::Open(line, period) => {
-                let answer = opened(self.open(line, period));
-                writeln!(out, "open {line} {period} {answer}")
-            }
-            Step::Close(line) => {
-                let result = number(self.close(line));
-                writeln!(out, "close {line} {result}")
-            }
-            Step::Begin => {
-                *self = Held::empty();
-                writeln!(out, "plan")
-            }
-            Step::Write(place, number) => {
-                self.write(place, number);
-                writeln!(out, "write {place} {number}")
-            }
-            question => print_question(&self.plan, question, out),
+        Step::Begin => {
+            *held = Held::empty();
+            writeln!(out, "plan")
         }
+        Step::Write(place, number) => {
+            held.write(place, number);
+            writeln!(out, "write {place} {number}")
+        }
+        question => print_question(&held.plan, question, out),
     }
 }
 
@@ -486,7 +437,7 @@ mod tests {
             let before = held.plan.clone();
             match step {
                 Step::Begin => held = Held::empty(),
-                step => held.change_by(Some(step)),
+                step => change(&mut held, step),
             }
             if matches!(step, Step::Write(..)) {
                 let kind = match held.record.tree() {

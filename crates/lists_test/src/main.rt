@@ -24,17 +24,11 @@ const MOST_ROOM: usize = 70000;
 // Every lent byte before the call: EE.
 const UNTOUCHED: u8 = 238;
 
-// A number of the record, if no tree can have it.
 fn print_number(current: Plan, place: u64) {
     text(b"number ");
     decimal(place);
     text(b" ");
-    let found = number_at(current, place);
-    if found < 4096 {
-        text(b"-");
-    } else {
-        decimal(found);
-    }
+    decimal(number_at(current, place));
     text(b"\n");
 }
 
