@@ -1,8 +1,9 @@
 //! Compares the proved library and the program `book` with the same in plain Rust: first their answers, then their speed.
 
+use gaplinte::raw;
+
 mod compare;
 mod inputs;
-mod library;
 mod measure;
 mod numbers;
 mod plain;
@@ -23,10 +24,10 @@ struct Calls {
 }
 
 const LIBRARY: Calls = Calls {
-    open: library::open,
-    close: library::close,
-    owner: library::owner,
-    run_list: library::run_list,
+    open: raw::open,
+    close: raw::close,
+    owner: raw::owner,
+    run_list: raw::run_list,
 };
 const PLAIN: Calls = Calls {
     open: plain::open,

@@ -5,6 +5,7 @@
 use crate::list_script::{owners, Step, MOST_ROOM};
 use crate::long_list::{self, MOST_ORDERS};
 use crate::orders::{answers_length, pack, LONGEST_LIST, ORDER_BYTES};
+use crate::script;
 use crate::shapes::Shape;
 use std::collections::BTreeSet;
 
@@ -217,32 +218,18 @@ fn malformed_orders() -> Vec<Step> {
     steps
 }
 
-/// (Marked cases, A to G and I), as far as orders can hold them; the lines are numbered
-/// from 1 where the case names none.
+/// (Marked cases, A to I), as far as orders can hold them.
 fn marked_cases() -> Vec<Step> {
-    let in_turn = |periods: &[u64]| -> Vec<OrderBytes> {
-        let lines = 1..;
-        lines
-            .zip(periods)
-            .map(|(line, &it)| open(line, it))
-            .collect()
+    let order = |call: &script::Step| match *call {
+        script::Step::Open(line, period) => pack(0, line, period).ok(),
+        script::Step::Close(line) => pack(1, line, 0).ok(),
+        _ => None,
     };
-    let powers: Vec<u64> = (1..=11).map(|power| 1 << power).collect();
-    let case_i = [in_turn(&[6, 2, 3]), vec![close(2), open(3, 3), close(2)]];
-    let cases = [
-        in_turn(&[4, 6, 8, 2, 12]),
-        in_turn(&[4, 4, 2]),
-        in_turn(&[6, 12, 12]),
-        in_turn(&[1, 1, 4_095]),
-        in_turn(&[2, 3]),
-        in_turn(&powers),
-        in_turn(&[4_095, 0]),
-        case_i.concat(),
-    ];
     let mut steps = Vec::new();
-    for case in cases {
+    for case in script::marked_cases() {
+        let orders: Vec<OrderBytes> = case.iter().filter_map(order).collect();
         steps.push(Step::Begin);
-        steps.extend(run_all(&case, 2));
+        steps.extend(run_all(&orders, 2));
         steps.extend(owners([0, 1, 7, 9, 10, 1 << 32, u64::MAX]));
     }
     steps
