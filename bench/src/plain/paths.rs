@@ -70,7 +70,16 @@ fn joins(earlier: &[Path], path: &Path) -> bool {
             .all(|other| is_closed(other) || parts(other, path))
 }
 
+/// The rows of a closed line, summed up before the one test as the library does.
+fn closed_unused(path: &Path) -> bool {
+    let sum: u32 = path.as_flattened().iter().copied().map(u32::from).sum();
+    sum == 0
+}
+
 fn path_legal(earlier: &[Path], path: &Path) -> bool {
+    if is_closed(path) {
+        return closed_unused(path);
+    }
     check_path(path).is_some_and(|count| rest_unused(path, count)) && joins(earlier, path)
 }
 

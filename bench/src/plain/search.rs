@@ -1,6 +1,6 @@
 //! The search for the chosen candidate.
 
-use super::paths::{length, same_node};
+use super::paths::{is_closed, length, same_node};
 use super::Plan;
 
 /// The node at a level of a line's path, with its offset and its step.
@@ -91,5 +91,7 @@ fn best_on_path(plan: &Plan, line: usize, period: u16, earlier: Option<Spot>) ->
 }
 
 pub fn best_candidate(plan: &Plan, period: u16) -> Option<Spot> {
-    (0..plan.len()).fold(None, |best, line| best_on_path(plan, line, period, best))
+    (0..plan.len())
+        .filter(|&line| !is_closed(&plan[line]))
+        .fold(None, |best, line| best_on_path(plan, line, period, best))
 }
