@@ -5,16 +5,16 @@ use native.Mathlib.Omega.{arith}
 use native.Mathlib.Nat.{sub-zero, zero-lt-suc}
 use mathlib.Core.Path.{_≡_, refl, sym, _∙_, ap, subst}
 use mathlib.Core.Logic.{_⊎_, inl, inr}
-use mathlib.Core.Bool.{Bool, true, false, not, _&&_, false≢true, and-eq-true-iff}
+use mathlib.Core.Bool.{Bool, true, false, _&&_, false≢true, and-eq-true-iff}
 use mathlib.Core.List.{List, [], _∷_}
 use lib.Dec.{eqb}
 use lib.ListN.{length}
-use borrow.Author.Tests.{eqb-true, eq-eqb, ne-eqb}
+use borrow.Author.Tests.{eqb-true, eqb-false, eq-eqb, ne-eqb}
 use Rattle.tree.specs.declared.Row.{Row}
 use Rattle.tree.specs.Record.{row-at, path-at}
 use Rattle.paths.specs.Rules.{row-of, same-node}
 use Rattle.paths.proofs.PathRest.{zero-or-not, path-rest, path-rest-start, path-rest-row, path-rest-end}
-use Rattle.paths.proofs.PathRows.{row-in-path}
+use Rattle.paths.proofs.PathRows.{row-in-path, weight-in-path}
 
 pub record SameWay (rows : List ℕ) (a b l k : ℕ) : Type 0 where
   pub within : k ≤ l
@@ -25,6 +25,21 @@ pub same-node-none : (l : ℕ) (ps : List Row) → same-node l ps [] ≡ false
 unfolding same-node
 same-node-none l [] = refl
 same-node-none l (p ∷ ps) = refl
+
+eqb-comm : (m n : ℕ) → eqb m n ≡ eqb n m
+eqb-comm m n = go (eqb m n) refl
+  where
+    go : (b : Bool) → eqb m n ≡ b → eqb m n ≡ eqb n m
+    go true e = e ∙ sym (eq-eqb n m (sym (eqb-true m n e)))
+    go false e = e ∙ sym (ne-eqb n m (λ same. eqb-false m n e (sym same)))
+
+pub same-node-comm : (l : ℕ) (ps qs : List Row) → same-node l ps qs ≡ same-node l qs ps
+unfolding same-node
+same-node-comm l [] [] = refl
+same-node-comm l [] (q ∷ qs) = refl
+same-node-comm l (p ∷ ps) [] = refl
+same-node-comm zero (p ∷ ps) (q ∷ qs) = refl
+same-node-comm (suc l) (p ∷ ps) (q ∷ qs) = rw (eqb-comm (p .edge) (q .edge), same-node-comm l ps qs)
 
 -- two paths through a node go on there
 pub same-node-goes-on : (l : ℕ) (ps qs : List Row) → same-node l ps qs ≡ true → (l < length ps) × (l < length qs)
@@ -65,6 +80,18 @@ edge-read rows ps l N {d} read test = go (same-node l ps (path-at rows N)) refl
     go false apart = refl
     go true through = ap (λ (r : Row). test (r .edge)) (row-in-path rows N (same-node-goes-on l ps (path-at rows N) through .1)) ∙ ap test (sym read)
 
+-- w was read as the weight in row l of a line: where it is 0, no path goes through a node with that line's there
+module _ (rows : List ℕ) (l : ℕ) (ps : List Row) (N : ℕ) {w : ℕ} (read : w ≡ row-at rows N l .weight) (zero-weight : w ≡ 0) where
+  pub second-ends-above : same-node l ps (path-at rows N) ≡ false
+  second-ends-above = go (same-node l ps (path-at rows N)) refl
+    where
+      go : (b : Bool) → same-node l ps (path-at rows N) ≡ b → same-node l ps (path-at rows N) ≡ false
+      go false apart = apart
+      go true through = absurd (weight-in-path rows N (same-node-goes-on l ps (path-at rows N) through .1) (sym read ∙ zero-weight))
+
+  pub first-ends-above : same-node l (path-at rows N) ps ≡ false
+  first-ends-above = same-node-comm l (path-at rows N) ps ∙ second-ends-above
+
 -- the loop has come to the level
 pub level-reached : {rows : List ℕ} {a b l k : ℕ} → SameWay rows a b l k → l ≤ k → SameWay rows a b l l
 level-reached {rows} {a} {b} {l} {k} way past = subst (λ (n : ℕ). SameWay rows a b l n) (omega arith) way
@@ -72,44 +99,47 @@ level-reached {rows} {a} {b} {l} {k} way past = subst (λ (n : ℕ). SameWay row
 pub same-way-start : (rows : List ℕ) (a b l : ℕ) → SameWay rows a b l 0
 same-way-start rows a b l = record { within = zero-le; same = rw (path-rest-start rows a, path-rest-start rows b, sub-zero) }
 
-module _ {rows : List ℕ} {a b l k : ℕ} (way : SameWay rows a b l k) (below : k < 11) {w : ℕ} (read : w ≡ row-at rows a k .weight) where
-  -- the first path has ended
-  pub first-path-ended : w ≡ 0 → same-node l (path-at rows a) (path-at rows b) ≡ false
-  unfolding same-node
-  first-path-ended zero-weight = way .same ∙ rw (path-rest-end rows a k below read zero-weight)
+module _ {rows : List ℕ} {a b l k : ℕ} (way : SameWay rows a b l k) (below : k < 11) where
+  -- w was read as the first path's weight
+  module _ {w : ℕ} (read : w ≡ row-at rows a k .weight) where
+    pub first-path-ended : w ≡ 0 → same-node l (path-at rows a) (path-at rows b) ≡ false
+    unfolding same-node
+    first-path-ended zero-weight = way .same ∙ rw (path-rest-end rows a k below read zero-weight)
 
-  -- v was read as the second one's weight
-  module _ {v : ℕ} (read-second : v ≡ row-at rows b k .weight) where
+  -- v was read as the second one's
+  module _ {v : ℕ} (read : v ≡ row-at rows b k .weight) where
     pub second-path-ended : v ≡ 0 → same-node l (path-at rows a) (path-at rows b) ≡ false
-    second-path-ended zero-weight = way .same ∙ rw (path-rest-end rows b k below read-second zero-weight) (same-node-none (l - k) (path-rest rows a k))
+    second-path-ended zero-weight = way .same ∙ rw (path-rest-end rows b k below read zero-weight) (same-node-none (l - k) (path-rest rows a k))
 
-    module _ (some-weight : w ≡ 0 → ⊥) (second-weight : v ≡ 0 → ⊥) where
-      both-go-on : l ≤ k → same-node l (path-at rows a) (path-at rows b) ≡ true
-      unfolding same-node
-      both-go-on past =
-          let none-left : l - k ≡ 0 = omega arith in
-          way .same ∙ rw (none-left, path-rest-row rows a k below read some-weight, path-rest-row rows b k below read-second second-weight)
+  -- both have a weight there
+  module _ {w v : ℕ} (read : w ≡ row-at rows a k .weight) (read-second : v ≡ row-at rows b k .weight) (some-weight : w ≡ 0 → ⊥) (second-weight : v ≡ 0 → ⊥) where
+    pub both-go-on : l ≤ k → same-node l (path-at rows a) (path-at rows b) ≡ true
+    unfolding same-node
+    both-go-on past =
+        let none-left : l - k ≡ 0 = omega arith in
+        way .same ∙ rw (none-left, path-rest-row rows a k below read some-weight, path-rest-row rows b k below read-second second-weight)
 
-      -- above the level, e and d were read as their edges
-      module _ (above : k < l) {e d : ℕ} (read-edge : e ≡ row-at rows a k .edge) (read-other : d ≡ row-at rows b k .edge) where
-        one-more : l - k ≡ suc (l - (k + 1))
-        one-more = omega arith
+    -- above the level, the edges in row k decide
+    pub edges-decide : k < l → same-node l (path-at rows a) (path-at rows b)
+        ≡ (eqb (row-at rows a k .edge) (row-at rows b k .edge) && same-node (l - (k + 1)) (path-rest rows a (k + 1)) (path-rest rows b (k + 1)))
+    unfolding same-node
+    edges-decide above =
+        let one-more : l - k ≡ suc (l - (k + 1)) = omega arith in
+        way .same ∙ rw (one-more, path-rest-row rows a k below read some-weight, path-rest-row rows b k below read-second second-weight)
 
-        pub ways-differ : (e ≡ d → ⊥) → same-node l (path-at rows a) (path-at rows b) ≡ false
-        unfolding same-node
-        ways-differ differ = way .same ∙ rw (one-more, path-rest-row rows a k below read some-weight, path-rest-row rows b k below read-second second-weight, ne-eqb _ _ (λ s. differ (read-edge ∙ s ∙ sym read-other)))
-
-        pub same-way-more : e ≡ d → SameWay rows a b l (k + 1)
-        unfolding same-node
-        same-way-more one-edge = record {
-          within = omega arith;
-          same = way .same ∙ rw (one-more, path-rest-row rows a k below read some-weight, path-rest-row rows b k below read-second second-weight, eq-eqb _ _ (sym read-edge ∙ one-edge ∙ read-other));
-        }
-
-    -- at the level itself, where the first path goes on, the second one's weight decides
-    pub second-decides : l ≤ k → (w ≡ 0 → ⊥) → same-node l (path-at rows a) (path-at rows b) ≡ not (eqb v 0)
-    second-decides past some-weight = go (zero-or-not v)
+  -- above the level, e and d were read as their edges
+  module _ (above : k < l) {e d : ℕ} (read-edge : e ≡ row-at rows a k .edge) (read-other : d ≡ row-at rows b k .edge) where
+    pub ways-differ : (e ≡ d → ⊥) → same-node l (path-at rows a) (path-at rows b) ≡ false
+    ways-differ differ = go (zero-or-not (row-at rows a k .weight)) (zero-or-not (row-at rows b k .weight))
       where
-        go : (v ≡ 0) ⊎ (v ≡ 0 → ⊥) → same-node l (path-at rows a) (path-at rows b) ≡ not (eqb v 0)
-        go (inl z) = rw (eq-eqb _ _ z) (second-path-ended z)
-        go (inr n) = rw (ne-eqb _ _ n) (both-go-on some-weight n past)
+        go : (row-at rows a k .weight ≡ 0) ⊎ (row-at rows a k .weight ≡ 0 → ⊥) → (row-at rows b k .weight ≡ 0) ⊎ (row-at rows b k .weight ≡ 0 → ⊥) →
+            same-node l (path-at rows a) (path-at rows b) ≡ false
+        go (inl z) second = first-path-ended refl z
+        go (inr n) (inl z) = second-path-ended refl z
+        go (inr n) (inr m) = edges-decide refl refl n m above ∙ rw (ne-eqb _ _ (λ s. differ (read-edge ∙ s ∙ sym read-other)))
+
+    pub same-way-more : {w v : ℕ} → w ≡ row-at rows a k .weight → v ≡ row-at rows b k .weight → (w ≡ 0 → ⊥) → (v ≡ 0 → ⊥) → e ≡ d → SameWay rows a b l (k + 1)
+    same-way-more read read-second some-weight second-weight one-edge = record {
+      within = omega arith;
+      same = edges-decide read read-second some-weight second-weight above ∙ rw (eq-eqb _ _ (sym read-edge ∙ one-edge ∙ read-other));
+    }

@@ -109,27 +109,31 @@ pub fn parts(rows: &[u16; 1408], a: usize, b: usize) -> bool
 }
 
 // Two paths go through the same node at a level: the same edges so far, and both go on.
+// What most often differs is looked at first: whether the second path comes so far, and at each node the edges.
 pub fn same_node(rows: &[u16; 1408], a: usize, b: usize, level: usize) -> bool
     requires { ⌜ (a < 64) × (b < 64) × (level < 11) ⌝ }
     ensures { λ r. ⌜ r ≡ same-node level (path-at (now (rows .entry)) a) (path-at (now (rows .entry)) b) ⌝ }
 {
+    if weight(rows, b, level) == 0 {
+        return false;
+    }
+    if weight(rows, a, level) == 0 {
+        return false;
+    }
     let mut k = 0;
     while k < level {
+        if edge(rows, a, k) != edge(rows, b, k) {
+            return false;
+        }
         if weight(rows, a, k) == 0 {
             return false;
         }
         if weight(rows, b, k) == 0 {
             return false;
         }
-        if edge(rows, a, k) != edge(rows, b, k) {
-            return false;
-        }
         k += 1;
     }
-    if weight(rows, a, level) == 0 {
-        return false;
-    }
-    weight(rows, b, level) != 0
+    true
 }
 
 // Two lines go together in one tree: one of them is closed, or their paths part.
