@@ -14,6 +14,7 @@ ghost use Rattle.lines.specs.Bookable.{Bookable, BookableAt, SplittableI
 use candidates::Chosen;
 use candidates::Spot;
 use paths::Found;
+use tree::Period;
 use tree::Start;
 
 // What an open answers: the start of the line that was booked, or the number with which it is refused.
@@ -71,9 +72,9 @@ fn split_if_smaller(rows: &mut [u16; 1408], line: usize, level: usize, d: u16)
 }
 
 // The first line of a plan gets a root of its period. A plan that has lines and no candidate refuses with 5.
-fn book_first(rows: &mut [u16; 1408], line: usize, period: u16) -> OpenAnswer
-    requires { ⌜ Bookable (now rows) line period × (best-of-lines (path-at (now rows)) period 64 ≡ none) ⌝ }
-    ensures { λ r. ⌜ CarriedOut (open-line line period) (now (rows .entry)) (now (rows .exit)) (open-answer r) ⌝ }
+fn book_first(rows: &mut [u16; 1408], line: usize, period: Period) -> OpenAnswer
+    requires { ⌜ Bookable (now rows) line (period .0) × (best-of-lines (path-at (now rows)) (period .0) 64 ≡ none) ⌝ }
+    ensures { λ r. ⌜ CarriedOut (open-line line (period .0)) (now (rows .entry)) (now (rows .exit)) (open-answer r) ⌝ }
 {
     paths::whole(rows);
     if !all_closed(rows) {
@@ -84,27 +85,27 @@ fn book_first(rows: &mut [u16; 1408], line: usize, period: u16) -> OpenAnswer
 }
 
 // The line is booked at the chosen candidate.
-fn book_at(rows: &mut [u16; 1408], line: usize, period: u16, spot: Spot) -> OpenAnswer
-    requires { ⌜ BookableAt (now rows) line period (spot-in spot) ⌝ }
-    ensures { λ r. ⌜ CarriedOut (open-line line period) (now (rows .entry)) (now (rows .exit)) (open-answer r) ⌝ }
+fn book_at(rows: &mut [u16; 1408], line: usize, period: Period, spot: Spot) -> OpenAnswer
+    requires { ⌜ BookableAt (now rows) line (period .0) (spot-in spot) ⌝ }
+    ensures { λ r. ⌜ CarriedOut (open-line line (period .0)) (now (rows .entry)) (now (rows .exit)) (open-answer r) ⌝ }
 {
     paths::whole(rows);
+    let start = candidates::start_in(spot);
     let from = spot.line;
     let level = spot.level;
     let step = spot.step;
     let divisor = spot.divisor;
     let class = spot.class;
-    let quotient = period / (step * divisor);
-    let start = spot.offset + class * step;
+    let quotient = period.0 / (step * divisor);
     split_if_smaller(rows, from, level, divisor);
     booking::place_line(rows, line, from, level, divisor, class, quotient);
-    OpenAnswer::Booked(Start(start))
+    OpenAnswer::Booked(start)
 }
 
 // The line is booked at the chosen candidate, as the first of the plan, or not at all.
-fn book_line(rows: &mut [u16; 1408], line: usize, period: u16) -> OpenAnswer
-    requires { ⌜ Bookable (now rows) line period ⌝ }
-    ensures { λ r. ⌜ CarriedOut (open-line line period) (now (rows .entry)) (now (rows .exit)) (open-answer r) ⌝ }
+fn book_line(rows: &mut [u16; 1408], line: usize, period: Period) -> OpenAnswer
+    requires { ⌜ Bookable (now rows) line (period .0) ⌝ }
+    ensures { λ r. ⌜ CarriedOut (open-line line (period .0)) (now (rows .entry)) (now (rows .exit)) (open-answer r) ⌝ }
 {
     let chosen = candidates::best_candidate(rows, period);
     let Chosen::At(spot) = chosen else {
@@ -114,18 +115,18 @@ fn book_line(rows: &mut [u16; 1408], line: usize, period: u16) -> OpenAnswer
 }
 
 // Open: 1 for a line above 63, 2 for a period out of range, 3 for a line that is open, 5 where there is no candidate; else the line is booked.
-pub fn open_line(rows: &mut [u16; 1408], line: u64, period: u16) -> OpenAnswer
+pub fn open_line(rows: &mut [u16; 1408], line: u64, period: Period) -> OpenAnswer
     requires { ⌜ legal (now rows) ≡ true ⌝ }
-    ensures { λ r. ⌜ CarriedOut (open-line line period) (now (rows .entry)) (now (rows .exit)) (open-answer r) ⌝ }
+    ensures { λ r. ⌜ CarriedOut (open-line line (period .0)) (now (rows .entry)) (now (rows .exit)) (open-answer r) ⌝ }
 {
     paths::whole(rows);
     if 63 < line {
         return OpenAnswer::Refused(1);
     }
-    if period == 0 {
+    if period.0 == 0 {
         return OpenAnswer::Refused(2);
     }
-    if 4095 < period {
+    if 4095 < period.0 {
         return OpenAnswer::Refused(2);
     }
     let at = line as usize;

@@ -36,7 +36,7 @@ fn open_in_empty(rows: &mut [u16; 1408], line: u64, period: Period) -> OpenAnswe
     ensures { λ r. ⌜ CarriedOut (open-line line (period .0)) (now (rows .entry)) (now (rows .exit)) (open-answer r) ⌝ }
 {
     let mut fresh = empty();
-    let answer = lines::open_line(&mut fresh.rows, line, period.0);
+    let answer = lines::open_line(&mut fresh.rows, line, period);
     if let OpenAnswer::Booked(_) = answer {
         *rows = fresh.rows;
     }
@@ -49,7 +49,7 @@ pub fn open_rows(rows: &mut [u16; 1408], line: u64, period: Period) -> OpenAnswe
     ensures { λ r. ⌜ CarriedOut (open-line line (period .0)) (now (rows .entry)) (now (rows .exit)) (open-answer r) ⌝ }
 {
     if paths::legal(rows) {
-        return lines::open_line(rows, line, period.0);
+        return lines::open_line(rows, line, period);
     }
     open_in_empty(rows, line, period)
 }
