@@ -2,7 +2,7 @@
 ghost use mathlib.Core.Path.{_≡_};
 ghost use mathlib.Core.Bool.{true, false};
 ghost use Prim.Native.Nat.{_<_, _≤_};
-ghost use Rattle.tree.specs.Calls.{open-line, close-line};
+ghost use Rattle.tree.specs.Calls.{open-line, close-line, done};
 ghost use mathlib.Core.Option.{none};
 ghost use Rattle.tree.specs.Search.{all-below};
 ghost use Rattle.tree.specs.Record.{path-at, no-rows, legal};
@@ -29,12 +29,20 @@ pub enum CloseAnswer {
     Refused(u8),
 }
 
+// A line that is open goes.
+pub fn close_open_line(rows: &mut [u16; 1408], line: usize)
+    requires { ⌜ (legal (now rows) ≡ true) × (line < 64) × (no-rows (path-at (now rows) line) ≡ false) ⌝ }
+    ensures { λ _. ⌜ CarriedOut (close-line line) (now (rows .entry)) (now (rows .exit)) done ⌝ }
+{
+    paths::whole(rows);
+    booking::clear_line(rows, line);
+}
+
 // Close: 1 for a line above 63, 4 for one that is not open; else the line goes.
 pub fn close_line(rows: &mut [u16; 1408], line: u64) -> CloseAnswer
     requires { ⌜ legal (now rows) ≡ true ⌝ }
     ensures { λ r. ⌜ CarriedOut (close-line line) (now (rows .entry)) (now (rows .exit)) (close-answer r) ⌝ }
 {
-    paths::whole(rows);
     if 63 < line {
         return CloseAnswer::Refused(1);
     }
@@ -43,7 +51,7 @@ pub fn close_line(rows: &mut [u16; 1408], line: u64) -> CloseAnswer
     let Found::At(_) = found else {
         return CloseAnswer::Refused(4);
     };
-    booking::clear_line(rows, at);
+    close_open_line(rows, at);
     CloseAnswer::Done
 }
 
