@@ -12,6 +12,7 @@ use paths::edge;
 use paths::same_node;
 use paths::weight;
 use paths::whole;
+use tree::Period;
 
 // Row k of a line becomes (w, e).
 fn put_row(rows: &mut [u16; 1408], line: usize, k: usize, w: u16, e: u16)
@@ -99,12 +100,12 @@ pub fn place_line(
     }
 }
 
-// The path of the first line of a plan is written: a root of its period, with the line under edge 0.
-pub fn place_first(rows: &mut [u16; 1408], line: usize, period: u16)
+// The path of the first line of a plan is written: its period becomes the root's weight, and the line stands under edge 0.
+pub fn place_first(rows: &mut [u16; 1408], line: usize, period: Period)
     requires { ⌜ line < 64 ⌝ }
-    ensures { λ _. ⌜ now (rows .exit) ≡ set-line (now (rows .entry)) line (row period 0 ∷ []) ⌝ }
+    ensures { λ _. ⌜ now (rows .exit) ≡ set-line (now (rows .entry)) line (row (period .0) 0 ∷ []) ⌝ }
 {
     whole(rows);
     clear_line(rows, line);
-    put_row(rows, line, 0, period, 0);
+    put_row(rows, line, 0, period.0, 0);
 }

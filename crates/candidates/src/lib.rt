@@ -1,7 +1,7 @@
 // The search for the chosen candidate, over the lent array of a legal plan record.
 ghost use mathlib.Core.Path.{_≡_};
 ghost use mathlib.Core.Bool.{true};
-ghost use Prim.Native.Nat.{_<_};
+ghost use Prim.Native.Nat.{_+_, _*_, _<_, _≤_};
 ghost use lib.ListN.{length};
 ghost use Rattle.tree.specs.Numbers.{gcd, divides};
 ghost use Rattle.tree.specs.Record.{path-at, legal};
@@ -12,6 +12,8 @@ use paths::is_closed;
 use paths::path_length;
 use paths::same_node;
 use paths::weight;
+use tree::Period;
+use tree::Start;
 
 // What the search for a class finds: the smallest free one, or none.
 pub enum Class {
@@ -33,6 +35,14 @@ pub struct Spot {
 pub enum Chosen {
     At(Spot),
     Nothing,
+}
+
+// The start r + i·m that a candidate offers.
+pub fn start_in(spot: Spot) -> Start
+    requires { ⌜ spot .offset + spot .class * spot .step ≤ 4095 ⌝ }
+    ensures { λ r. ⌜ r .0 ≡ spot .offset + spot .class * spot .step ⌝ }
+{
+    Start(spot.offset + spot.class * spot.step)
 }
 
 // The greatest common divisor, by Euclid's algorithm.
@@ -74,12 +84,12 @@ fn spot_at(
     level: usize,
     step: u16,
     offset: u16,
-    period: u16,
+    period: Period,
 ) -> Chosen
-    requires { ⌜ (line < 64) × (level < length (path-at (now rows) line)) × (0 < step) × (divides step period ≡ true) ⌝ }
-    ensures { λ r. ⌜ spot-of r ≡ spot-with (path-at (now (rows .entry))) period line level step offset ⌝ }
+    requires { ⌜ (line < 64) × (level < length (path-at (now rows) line)) × (0 < step) × (divides step (period .0) ≡ true) ⌝ }
+    ensures { λ r. ⌜ spot-of r ≡ spot-with (path-at (now (rows .entry))) (period .0) line level step offset ⌝ }
 {
-    let divisor = gcd(weight(rows, line, level), period / step);
+    let divisor = gcd(weight(rows, line, level), period.0 / step);
     let found = free_class(rows, line, level, divisor);
     let Class::Free(class) = found else {
         return Chosen::Nothing;
@@ -128,17 +138,17 @@ fn better(
     level: usize,
     step: u16,
     offset: u16,
-    period: u16,
+    period: Period,
     best: Chosen,
 ) -> Chosen
     requires { ⌜ (line < 64) × (legal (now rows) ≡ true) × (level < length (path-at (now rows) line)) ⌝ }
-    requires { ⌜ Reached (path-at (now rows)) period line level step offset (spot-of best) ⌝ }
-    ensures { λ r. ⌜ spot-of r ≡ better-spot (spot-of best) (spot-at (path-at (now (rows .entry))) period line level) ⌝ }
+    requires { ⌜ Reached (path-at (now rows)) (period .0) line level step offset (spot-of best) ⌝ }
+    ensures { λ r. ⌜ spot-of r ≡ better-spot (spot-of best) (spot-at (path-at (now (rows .entry))) (period .0) line level) ⌝ }
 {
     if !comes_first(level, offset, best) {
         return best;
     }
-    if period % step != 0 {
+    if period.0 % step != 0 {
         return best;
     }
     if seen_earlier(rows, line, level) {
@@ -152,10 +162,10 @@ fn better(
 }
 
 // The best of the earlier lines, or the best node of a line's path where that comes first.
-fn best_on_path(rows: &[u16; 1408], line: usize, period: u16, earlier: Chosen) -> Chosen
+fn best_on_path(rows: &[u16; 1408], line: usize, period: Period, earlier: Chosen) -> Chosen
     requires { ⌜ (line < 64) × (legal (now rows) ≡ true) ⌝ }
-    requires { ⌜ spot-of earlier ≡ best-of-lines (path-at (now rows)) period line ⌝ }
-    ensures { λ r. ⌜ spot-of r ≡ best-on-path (path-at (now (rows .entry))) period (spot-of earlier) line (length (path-at (now (rows .entry)) line)) ⌝ }
+    requires { ⌜ spot-of earlier ≡ best-of-lines (path-at (now rows)) (period .0) line ⌝ }
+    ensures { λ r. ⌜ spot-of r ≡ best-on-path (path-at (now (rows .entry))) (period .0) (spot-of earlier) line (length (path-at (now (rows .entry)) line)) ⌝ }
 {
     let count = path_length(rows, line);
     let mut best = earlier;
@@ -170,9 +180,9 @@ fn best_on_path(rows: &[u16; 1408], line: usize, period: u16, earlier: Chosen) -
 }
 
 // The chosen candidate for a period. A closed line is passed without a copy of the best so far.
-pub fn best_candidate(rows: &[u16; 1408], period: u16) -> Chosen
+pub fn best_candidate(rows: &[u16; 1408], period: Period) -> Chosen
     requires { ⌜ legal (now rows) ≡ true ⌝ }
-    ensures { λ r. ⌜ spot-of r ≡ best-of-lines (path-at (now (rows .entry))) period 64 ⌝ }
+    ensures { λ r. ⌜ spot-of r ≡ best-of-lines (path-at (now (rows .entry))) (period .0) 64 ⌝ }
 {
     let mut best = Chosen::Nothing;
     for line in 0..64 {

@@ -2,7 +2,7 @@
 ghost use mathlib.Core.Path.{_≡_};
 ghost use mathlib.Core.Bool.{true, false};
 ghost use Prim.Native.Nat.{_<_, _≤_};
-ghost use Rattle.tree.specs.Calls.{open-line, close-line};
+ghost use Rattle.tree.specs.Calls.{open-line, close-line, done};
 ghost use mathlib.Core.Option.{none};
 ghost use Rattle.tree.specs.Search.{all-below};
 ghost use Rattle.tree.specs.Record.{path-at, no-rows, legal};
@@ -14,6 +14,7 @@ ghost use Rattle.lines.specs.Bookable.{Bookable, BookableAt, SplittableI
 use candidates::Chosen;
 use candidates::Spot;
 use paths::Found;
+use tree::Period;
 use tree::Start;
 
 // What an open answers: the start of the line that was booked, or the number with which it is refused.
@@ -28,12 +29,20 @@ pub enum CloseAnswer {
     Refused(u8),
 }
 
+// A line that is open goes.
+pub fn close_open_line(rows: &mut [u16; 1408], line: usize)
+    requires { ⌜ (legal (now rows) ≡ true) × (line < 64) × (no-rows (path-at (now rows) line) ≡ false) ⌝ }
+    ensures { λ _. ⌜ CarriedOut (close-line line) (now (rows .entry)) (now (rows .exit)) done ⌝ }
+{
+    paths::whole(rows);
+    booking::clear_line(rows, line);
+}
+
 // Close: 1 for a line above 63, 4 for one that is not open; else the line goes.
 pub fn close_line(rows: &mut [u16; 1408], line: u64) -> CloseAnswer
     requires { ⌜ legal (now rows) ≡ true ⌝ }
     ensures { λ r. ⌜ CarriedOut (close-line line) (now (rows .entry)) (now (rows .exit)) (close-answer r) ⌝ }
 {
-    paths::whole(rows);
     if 63 < line {
         return CloseAnswer::Refused(1);
     }
@@ -42,7 +51,7 @@ pub fn close_line(rows: &mut [u16; 1408], line: u64) -> CloseAnswer
     let Found::At(_) = found else {
         return CloseAnswer::Refused(4);
     };
-    booking::clear_line(rows, at);
+    close_open_line(rows, at);
     CloseAnswer::Done
 }
 
@@ -71,9 +80,9 @@ fn split_if_smaller(rows: &mut [u16; 1408], line: usize, level: usize, d: u16)
 }
 
 // The first line of a plan gets a root of its period. A plan that has lines and no candidate refuses with 5.
-fn book_first(rows: &mut [u16; 1408], line: usize, period: u16) -> OpenAnswer
-    requires { ⌜ Bookable (now rows) line period × (best-of-lines (path-at (now rows)) period 64 ≡ none) ⌝ }
-    ensures { λ r. ⌜ CarriedOut (open-line line period) (now (rows .entry)) (now (rows .exit)) (open-answer r) ⌝ }
+fn book_first(rows: &mut [u16; 1408], line: usize, period: Period) -> OpenAnswer
+    requires { ⌜ Bookable (now rows) line (period .0) × (best-of-lines (path-at (now rows)) (period .0) 64 ≡ none) ⌝ }
+    ensures { λ r. ⌜ CarriedOut (open-line line (period .0)) (now (rows .entry)) (now (rows .exit)) (open-answer r) ⌝ }
 {
     paths::whole(rows);
     if !all_closed(rows) {
@@ -84,27 +93,27 @@ fn book_first(rows: &mut [u16; 1408], line: usize, period: u16) -> OpenAnswer
 }
 
 // The line is booked at the chosen candidate.
-fn book_at(rows: &mut [u16; 1408], line: usize, period: u16, spot: Spot) -> OpenAnswer
-    requires { ⌜ BookableAt (now rows) line period (spot-in spot) ⌝ }
-    ensures { λ r. ⌜ CarriedOut (open-line line period) (now (rows .entry)) (now (rows .exit)) (open-answer r) ⌝ }
+fn book_at(rows: &mut [u16; 1408], line: usize, period: Period, spot: Spot) -> OpenAnswer
+    requires { ⌜ BookableAt (now rows) line (period .0) (spot-in spot) ⌝ }
+    ensures { λ r. ⌜ CarriedOut (open-line line (period .0)) (now (rows .entry)) (now (rows .exit)) (open-answer r) ⌝ }
 {
     paths::whole(rows);
+    let start = candidates::start_in(spot);
     let from = spot.line;
     let level = spot.level;
     let step = spot.step;
     let divisor = spot.divisor;
     let class = spot.class;
-    let quotient = period / (step * divisor);
-    let start = spot.offset + class * step;
+    let quotient = period.0 / (step * divisor);
     split_if_smaller(rows, from, level, divisor);
     booking::place_line(rows, line, from, level, divisor, class, quotient);
-    OpenAnswer::Booked(Start(start))
+    OpenAnswer::Booked(start)
 }
 
 // The line is booked at the chosen candidate, as the first of the plan, or not at all.
-fn book_line(rows: &mut [u16; 1408], line: usize, period: u16) -> OpenAnswer
-    requires { ⌜ Bookable (now rows) line period ⌝ }
-    ensures { λ r. ⌜ CarriedOut (open-line line period) (now (rows .entry)) (now (rows .exit)) (open-answer r) ⌝ }
+fn book_line(rows: &mut [u16; 1408], line: usize, period: Period) -> OpenAnswer
+    requires { ⌜ Bookable (now rows) line (period .0) ⌝ }
+    ensures { λ r. ⌜ CarriedOut (open-line line (period .0)) (now (rows .entry)) (now (rows .exit)) (open-answer r) ⌝ }
 {
     let chosen = candidates::best_candidate(rows, period);
     let Chosen::At(spot) = chosen else {
@@ -114,18 +123,18 @@ fn book_line(rows: &mut [u16; 1408], line: usize, period: u16) -> OpenAnswer
 }
 
 // Open: 1 for a line above 63, 2 for a period out of range, 3 for a line that is open, 5 where there is no candidate; else the line is booked.
-pub fn open_line(rows: &mut [u16; 1408], line: u64, period: u16) -> OpenAnswer
+pub fn open_line(rows: &mut [u16; 1408], line: u64, period: Period) -> OpenAnswer
     requires { ⌜ legal (now rows) ≡ true ⌝ }
-    ensures { λ r. ⌜ CarriedOut (open-line line period) (now (rows .entry)) (now (rows .exit)) (open-answer r) ⌝ }
+    ensures { λ r. ⌜ CarriedOut (open-line line (period .0)) (now (rows .entry)) (now (rows .exit)) (open-answer r) ⌝ }
 {
     paths::whole(rows);
     if 63 < line {
         return OpenAnswer::Refused(1);
     }
-    if period == 0 {
+    if period.0 == 0 {
         return OpenAnswer::Refused(2);
     }
-    if 4095 < period {
+    if 4095 < period.0 {
         return OpenAnswer::Refused(2);
     }
     let at = line as usize;

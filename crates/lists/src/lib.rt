@@ -38,9 +38,9 @@ pub struct ListResult {
 }
 
 // An order that opens a line.
-fn run_open(rows: &mut [u16; 1408], line: u64, period: u16) -> OrderAnswer
+fn run_open(rows: &mut [u16; 1408], line: u64, period: Period) -> OrderAnswer
     requires { ⌜ legal (now rows) ≡ true ⌝ }
-    ensures { λ r. ⌜ CarriedOut (open-line line period) (now (rows .entry)) (now (rows .exit)) (answer-in r) ⌝ }
+    ensures { λ r. ⌜ CarriedOut (open-line line (period .0)) (now (rows .entry)) (now (rows .exit)) (answer-in r) ⌝ }
 {
     let answer = lines::open_line(rows, line, period);
     match answer {
@@ -68,7 +68,7 @@ fn run_order(rows: &mut [u16; 1408], bytes: Bytes) -> OrderAnswer
 {
     let order = orders::read(bytes);
     match order {
-        Reading::Open(line, period) => run_open(rows, line, period.0),
+        Reading::Open(line, period) => run_open(rows, line, period),
         Reading::Close(line) => run_close(rows, line),
         Reading::Refused(number) => OrderAnswer::Refused(number),
     }
@@ -86,13 +86,13 @@ fn result_of(answer: OrderAnswer) -> u8
 }
 
 // 0 unless a line was opened.
-fn start_of(answer: OrderAnswer) -> u16
-    ensures { λ r. ⌜ r ≡ start (answer-in answer) ⌝ }
+fn start_of(answer: OrderAnswer) -> Start
+    ensures { λ r. ⌜ r .0 ≡ start (answer-in answer) ⌝ }
 {
     match answer {
-        OrderAnswer::Booked(start) => start.0,
-        OrderAnswer::Done => 0,
-        OrderAnswer::Refused(_) => 0,
+        OrderAnswer::Booked(start) => start,
+        OrderAnswer::Done => Start(0),
+        OrderAnswer::Refused(_) => Start(0),
     }
 }
 
@@ -101,7 +101,7 @@ fn answer_word(answer: OrderAnswer) -> u64
     ensures { λ r. ⌜ r ≡ answer-word (answer-in answer) ⌝ }
 {
     let result = result_of(answer) as u64;
-    let start = start_of(answer) as u64;
+    let start = start_of(answer).0 as u64;
     result * 4096 + start
 }
 

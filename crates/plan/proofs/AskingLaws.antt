@@ -2,46 +2,26 @@
 -- Assumes nothing.
 use Prim.Native.Nat.{ℕ, _+_, _/_, _<_, _≤_}
 use native.Mathlib.Omega.{arith}
-use mathlib.Core.Path.{_≡_, refl, sym, ap}
-use mathlib.Core.Bool.{Bool, true, false}
-use mathlib.Core.List.{List, []}
-use mathlib.Core.Logic.{_⊎_, inl, inr, ⊎-elim}
+use mathlib.Core.Path.{_≡_, sym, ap}
+use mathlib.Core.Bool.{true, false}
+use mathlib.Core.List.{[]}
+use mathlib.Core.Logic.{⊎-elim}
 use Rattle.tree.specs.declared.Plan.{Plan}
 use Rattle.tree.specs.declared.Period.{Period}
 use Rattle.tree.specs.declared.Start.{Start}
-use Rattle.tree.specs.Search.{if_then_else_}
 use Rattle.tree.specs.Tree.{Tree, product, sum}
 use Rattle.tree.specs.Asking.{rows-11}
 use Rattle.tree.specs.Calls.{gives, refuses, show-outcome, turns-outcome}
 use Rattle.tree.specs.Record.{path-at, no-rows, legal, treeOf}
 use Rattle.paths.specs.declared.Found.the-variants.{At, Nothing}
-use Rattle.paths.specs.Answers.{lookup}
 use Rattle.paths.proofs.PathLength.{lookup-nothing, lookup-at}
 use Rattle.paths.proofs.PathRest.{path-rest-start, path-rest-product}
 use Rattle.bridge.specs.Rows.{tree-of}
 use Rattle.bridge.proofs.AskingRecords.{shown-refused-1, shown-refused-4, shown-on-illegal, shown-on-record, turns-refused-1, turns-refused-4, turns-on-illegal, turns-on-record}
 use Rattle.plan.specs.declared.ask.ShowAnswer.the-variants.{Times, Refused}
-use Rattle.plan.specs.Ask.{line-found, show-answer, rows-beside, ShownAs}
-
--- The lookup of a line
-
-found-in-tree : (rows : List ℕ) (L n : ℕ) → line-found rows L ≡ At n → (legal rows ≡ true) × (lookup (path-at rows L) ≡ At n)
-unfolding line-found
-found-in-tree rows L n = go (legal rows) refl
-  where
-    go : (b : Bool) → legal rows ≡ b → (if b then lookup (path-at rows L) else Nothing) ≡ At n → (legal rows ≡ true) × (lookup (path-at rows L) ≡ At n)
-    go true is-legal there = (is-legal, there)
-    go false illegal there = let z : _≡_ {A = ℕ} 0 1 = cc in absurd (omega arith)
-
-absent-or-no-tree : (rows : List ℕ) (L : ℕ) → line-found rows L ≡ Nothing → ((legal rows ≡ true) × (lookup (path-at rows L) ≡ Nothing)) ⊎ (legal rows ≡ false)
-unfolding line-found
-absent-or-no-tree rows L = go (legal rows) refl
-  where
-    go : (b : Bool) → legal rows ≡ b → (if b then lookup (path-at rows L) else Nothing) ≡ Nothing → ((legal rows ≡ true) × (lookup (path-at rows L) ≡ Nothing)) ⊎ (legal rows ≡ false)
-    go true is-legal absent = inl (is-legal, absent)
-    go false illegal absent = inr illegal
-
--- The calls
+use Rattle.plan.specs.Lookup.{line-found}
+use Rattle.plan.specs.Ask.{show-answer, rows-beside, ShownAs}
+use Rattle.plan.proofs.LineFound.{found-in-tree, absent-or-no-tree}
 
 -- a refused show answers the number, and its rows are 0
 shown-refused : (L n : ℕ) (t : Tree) → show-outcome L t ≡ refuses n → ShownAs L t (Refused n) (rows-11 [])

@@ -6,6 +6,7 @@ use mathlib.Core.Path.{_≡_, refl, sym, _∙_, ap}
 use mathlib.Core.Bool.{true, false}
 use mathlib.Core.List.{List}
 use mathlib.Core.Option.{Option, none, some}
+use mathlib.Core.Logic.{⊎-elim}
 use lib.ListN.{replicate}
 use Rattle.tree.specs.declared.Plan.{Plan}
 use Rattle.tree.specs.Search.{found}
@@ -23,7 +24,11 @@ use Rattle.tree.specs.declared.Start.{Start}
 use Rattle.lines.specs.declared.OpenAnswer.{OpenAnswer}
 use Rattle.lines.specs.declared.OpenAnswer.the-variants.{Booked, Refused}
 use Rattle.lines.specs.Answers.{open-answer}
+use Rattle.lines.proofs.CloseLine.{close-absent}
+use Rattle.paths.specs.declared.Found.the-variants.{Nothing}
 use Rattle.plan.specs.Meets.{empty-plan, plan-unless, plan-after, Meets}
+use Rattle.plan.specs.Lookup.{line-found}
+use Rattle.plan.proofs.LineFound.{absent-or-no-tree}
 
 -- A record that is a tree
 
@@ -99,7 +104,7 @@ module _ (rows : List ℕ) (not-legal : legal rows ≡ false) where
       by-refusal (some m) e = refl
       by-refusal none e = absurd (reply-not-refused c (tree-of rows) n (sym e))
 
-  pub close-none : (L : ℕ) → L ≤ 63 → CarriedOut (close-line L) rows rows (refused 4)
+  close-none : (L : ℕ) → L ≤ 63 → CarriedOut (close-line L) rows rows (refused 4)
   unfolding refusal is-open path found
   close-none L number = refused-on (close-line L) rows 4 (line-refused-4 L (tree-of rows) number (ap (is-open L) no-tree))
 
@@ -116,3 +121,9 @@ module _ (rows : List ℕ) (not-legal : legal rows ≡ false) where
     open-was-refused n told =
         let made = rw (empty, told) at h in
         rw told (refused-from-empty (open-line L p) n after made)
+
+-- A close whose lookup finds nothing
+
+pub close-not-found : (rows : List ℕ) (L : ℕ) → L ≤ 63 → line-found rows L ≡ Nothing → CarriedOut (close-line L) rows rows (refused 4)
+close-not-found rows L number h =
+    ⊎-elim (λ w. close-absent rows L (w .0) number (w .1)) (λ illegal. close-none rows illegal L number) (absent-or-no-tree rows L h)

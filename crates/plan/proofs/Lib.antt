@@ -1,3 +1,4 @@
+pub mod LineFound
 pub mod Changes
 pub mod AskingLaws
 pub mod WalkerLaws

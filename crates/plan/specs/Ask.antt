@@ -5,14 +5,9 @@ use mathlib.Core.Path.{_≡_}
 use mathlib.Core.List.{List, []}
 use mathlib.Core.Option.{Option, none, some}
 use Rattle.tree.specs.declared.Row.{Row}
-use Rattle.tree.specs.Search.{if_then_else_}
 use Rattle.tree.specs.Tree.{Tree}
 use Rattle.tree.specs.Asking.{Shown, rows-11}
 use Rattle.tree.specs.Calls.{Outcome, gives, refuses, show-outcome}
-use Rattle.tree.specs.Record.{path-at, legal}
-use Rattle.paths.specs.declared.Found.{Found}
-use Rattle.paths.specs.declared.Found.the-variants.{Nothing}
-use Rattle.paths.specs.Answers.{lookup}
 use Rattle.plan.specs.declared.ask.OwnerAnswer.{OwnerAnswer}
 use Rattle.plan.specs.declared.ask.OwnerAnswer.the-variants.{Line, Idle}
 use Rattle.plan.specs.declared.ask.ShowAnswer.{ShowAnswer}
@@ -25,10 +20,6 @@ use Rattle.plan.specs.declared.ask.TurnsAnswer.the-variants.{Count, Refu
 unfoldable pub owner-answer : OwnerAnswer → Option ℕ
 owner-answer (Line n) = some n
 owner-answer Idle = none
-
--- what the lookup of line L finds: nothing in a record that is no tree
-unfoldable pub line-found : List ℕ → ℕ → Found
-line-found rows L = if legal rows then lookup (path-at rows L) else Nothing
 
 -- what show answered, with the rows beside it
 unfoldable pub show-answer : ShowAnswer → List Row → Outcome Shown

@@ -1,3 +1,4 @@
 pub mod Meets
+pub mod Lookup
 pub mod Ask
 pub mod Walker

@@ -1,11 +1,11 @@
 // The calls that ask a plan: owner, show and turns. A record that is no tree is answered as the empty plan.
 ghost use mathlib.Core.Path.{_≡_};
-ghost use Prim.Native.Nat.{_<_};
 ghost use Rattle.tree.specs.Asking.{owner};
 ghost use Rattle.tree.specs.Calls.{turns-outcome};
 ghost use Rattle.tree.specs.Record.{treeOf};
 ghost use Rattle.bridge.specs.Rows.{tree-of};
-ghost use Rattle.plan.specs.Ask.{line-found, owner-answer, turns-answer, ShownAs, refused-showing};
+ghost use Rattle.plan.specs.Ask.{owner-answer, turns-answer, ShownAs, refused-showing};
+use crate::lookup::find_line;
 use asking::Owner;
 use paths::Found;
 use tree::Period;
@@ -57,17 +57,6 @@ pub fn owner(plan: Plan, round: u64) -> OwnerAnswer
     ensures { λ r. ⌜ owner-answer r ≡ owner round (treeOf plan) ⌝ }
 {
     owner_rows(&plan.rows, round)
-}
-
-// The lookup of a line in a record that need not be a tree: the empty plan has no line.
-fn find_line(numbers: &[u16; 1408], line: usize) -> Found
-    requires { ⌜ line < 64 ⌝ }
-    ensures { λ r. ⌜ r ≡ line-found (now (numbers .entry)) line ⌝ }
-{
-    if !paths::legal(numbers) {
-        return Found::Nothing;
-    }
-    paths::find(numbers, line)
 }
 
 // What a refused show gives.

@@ -6,8 +6,10 @@ ghost use Rattle.tree.specs.Record.{legal};
 ghost use Rattle.bridge.specs.Rows.{CarriedOut};
 ghost use Rattle.lines.specs.Answers.{open-answer, close-answer};
 ghost use Rattle.plan.specs.Meets.{empty-plan, Meets};
+use crate::lookup::find_line;
 use lines::CloseAnswer;
 use lines::OpenAnswer;
+use paths::Found;
 use tree::Period;
 use tree::Plan;
 
@@ -36,7 +38,7 @@ fn open_in_empty(rows: &mut [u16; 1408], line: u64, period: Period) -> OpenAnswe
     ensures { λ r. ⌜ CarriedOut (open-line line (period .0)) (now (rows .entry)) (now (rows .exit)) (open-answer r) ⌝ }
 {
     let mut fresh = empty();
-    let answer = lines::open_line(&mut fresh.rows, line, period.0);
+    let answer = lines::open_line(&mut fresh.rows, line, period);
     if let OpenAnswer::Booked(_) = answer {
         *rows = fresh.rows;
     }
@@ -49,7 +51,7 @@ pub fn open_rows(rows: &mut [u16; 1408], line: u64, period: Period) -> OpenAnswe
     ensures { λ r. ⌜ CarriedOut (open-line line (period .0)) (now (rows .entry)) (now (rows .exit)) (open-answer r) ⌝ }
 {
     if paths::legal(rows) {
-        return lines::open_line(rows, line, period.0);
+        return lines::open_line(rows, line, period);
     }
     open_in_empty(rows, line, period)
 }
@@ -67,13 +69,16 @@ pub fn open(plan: Plan, line: u64, period: Period) -> Opening
 pub fn close_rows(rows: &mut [u16; 1408], line: u64) -> CloseAnswer
     ensures { λ r. ⌜ CarriedOut (close-line line) (now (rows .entry)) (now (rows .exit)) (close-answer r) ⌝ }
 {
-    if paths::legal(rows) {
-        return lines::close_line(rows, line);
-    }
     if 63 < line {
         return CloseAnswer::Refused(1);
     }
-    CloseAnswer::Refused(4)
+    let at = line as usize;
+    let found = find_line(rows, at);
+    let Found::At(_) = found else {
+        return CloseAnswer::Refused(4);
+    };
+    lines::close_open_line(rows, at);
+    CloseAnswer::Done
 }
 
 // The same with a plan by value.

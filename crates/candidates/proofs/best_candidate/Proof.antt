@@ -9,7 +9,7 @@ use Rattle.candidates.proofs.best_candidate.Statement.{statement}
 use Rattle.candidates.proofs.best_candidate.Tie as tie
 
 abbrev Inv-loop : tie.InvT-loop
-Inv-loop rows period best₀ line₀ best line = BestOf rows period best line
+Inv-loop rows period best₀ line₀ best line = BestOf rows (period .0) best line
 
 abbrev μ-loop : tie.MeasureT-loop
 μ-loop rows period best₀ line₀ best line = 64 - line

@@ -13,7 +13,7 @@ use Rattle.candidates.proofs.best_on_path.Statement.{statement}
 use Rattle.candidates.proofs.best_on_path.Tie as tie
 
 abbrev Inv-loop : tie.InvT-loop
-Inv-loop rows line period count best₀ step₀ offset₀ level₀ best step offset level = Reached (path-at rows) period line level step offset (spot-of best)
+Inv-loop rows line period count best₀ step₀ offset₀ level₀ best step offset level = Reached (path-at rows) (period .0) line level step offset (spot-of best)
 
 abbrev μ-loop : tie.MeasureT-loop
 μ-loop rows line period count best₀ step₀ offset₀ level₀ best step offset level = count - level

@@ -19,27 +19,27 @@ returns c = not-first _ (c .before .before .pre .1) (c .before .comes-first .ens
 
 rem-if2 : tie.Need-rem-if2
 rem-if2 c =
-    let start = c .before .before in
+    let start = c .before .before .before in
     step-positive _ (start .pre .1) (start .pre .0 .1) (start .pre .0 .0)
 
 returns-2 : tie.Need-returns-2
-returns-2 c = not-dividing _ (c .before .before .before .pre .1) (c .if2 .taken)
+returns-2 c = not-dividing _ (c .before .before .before .before .pre .1) (c .if2 .taken)
 
 seen-earlier-requires : tie.Need-seen-earlier-requires
 seen-earlier-requires c κs =
-    let start = c .before .before .before in
+    let start = c .before .before .before .before in
     omega (arith, path-length-at-most-11 (now (start .args .rows)) (start .args .line))
 
 returns-3 : tie.Need-returns-3
 returns-3 c =
-    let start = c .before .before .before .before .before in
+    let start = c .before .before .before .before .before .before in
     seen-before _ _ (start .pre .1) (start .pre .0 .1) (start .pre .0 .0) (c .before .seen-earlier .ensures) (c .if3 .taken)
 
 spot-at-requires : tie.Need-spot-at-requires
 unfolding divides
 spot-at-requires c κs =
     let dividing = c .before .before in
-    let start = dividing .before .before .before in
+    let start = dividing .before .before .before .before in
     (start .pre .0 .0, start .pre .0 .2, step-positive _ (start .pre .1) (start .pre .0 .1) (start .pre .0 .0), eq-eqb _ _ (dividing .if2 .left))
 
 enum-known-offer : tie.Need-enum-known-offer
@@ -51,12 +51,12 @@ enum-told c = search needs
 returns-4 : tie.Need-returns-4
 returns-4 c =
     let after-offer = c .before .before in
-    no-offer _ (after-offer .before .before .before .before .before .before .pre .1) (after-offer .spot-at .ensures) (c .enum-told .given .1)
+    no-offer _ (after-offer .before .before .before .before .before .before .before .pre .1) (after-offer .spot-at .ensures) (c .enum-told .given .1)
 
 returns-5 : tie.Need-returns-5
 returns-5 c =
     let after-offer = c .before .before .before in
-    let first = after-offer .before .before .before .before in
+    let first = after-offer .before .before .before .before .before in
     first-offer _ (first .before .before .pre .1) (first .before .comes-first .ensures) (after-offer .spot-at .ensures) (not-false _ (first .if1 .left)) _ (c .before .offer .given .1)
 
 pub better-spec : {M : Type 1} → statement M

@@ -20,7 +20,7 @@ gcd-requires : tie.Need-gcd-requires
 gcd-requires c κs = search needs
 
 free-class-requires : tie.Need-free-class-requires
-free-class-requires c κs = let start = c .before .before in omega (arith, path-length-at-most-11 (now (start .args .rows)) (start .args .line))
+free-class-requires c κs = let start = c .before .before .before in omega (arith, path-length-at-most-11 (now (start .args .rows)) (start .args .line))
 
 enum-known-found : tie.Need-enum-known-found
 enum-known-found c = search needs
@@ -33,7 +33,7 @@ unfolding spot-of
 returns c =
     let after-class = c .before .before in
     let after-gcd = after-class .before in
-    let after-weight = after-gcd .before in
+    let after-weight = after-gcd .before .before in
     let start = after-weight .before in
     sym (spot-full _ _ _ _ _ _ (start .pre .3) (start .pre .1) (after-weight .weight .ensures) (after-gcd .gcd .ensures) (after-class .free-class .ensures) (c .enum-told .given .1))
 
@@ -42,7 +42,7 @@ unfolding spot-of
 returns-2 c =
     let after-class = c .before .before .before in
     let after-gcd = after-class .before in
-    let after-weight = after-gcd .before in
+    let after-weight = after-gcd .before .before in
     let start = after-weight .before in
     sym (spot-free _ _ _ _ _ _ (start .pre .3) (start .pre .1) (after-weight .weight .ensures) (after-gcd .gcd .ensures) (after-class .free-class .ensures) _ (c .before .found .given .1))
 

@@ -20,7 +20,7 @@ returns c =
     let after-closed = c .before in
     let after-whole = after-closed .before .before in
     let at-start = after-whole .before .before in
-    open-full (at-start .args .rows .now) (at-start .args .line) (at-start .args .period) (at-start .pre .0) (after-whole .whole .ensures) (at-start .pre .1)
+    open-full (at-start .args .rows .now) (at-start .args .line) (at-start .args .period .0) (at-start .pre .0) (after-whole .whole .ensures) (at-start .pre .1)
     (sym (after-closed .all-closed .ensures) ∙ not-true _ (c .if1 .taken))
 
 place-first-requires : tie.Need-place-first-requires
@@ -34,7 +34,7 @@ returns-2 c =
     let after-whole = after-closed .before .before in
     let at-start = after-whole .before .before in
     rw (c .place-first .ensures)
-    (open-first (at-start .args .rows .now) (at-start .args .line) (at-start .args .period) (at-start .pre .0) (after-whole .whole .ensures)
+    (open-first (at-start .args .rows .now) (at-start .args .line) (at-start .args .period .0) (at-start .pre .0) (after-whole .whole .ensures)
     (sym (after-closed .all-closed .ensures) ∙ not-false _ (passed .if1 .left)))
 
 pub book-first-spec : {M : Type 1} → statement M

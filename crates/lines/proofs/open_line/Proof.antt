@@ -17,22 +17,22 @@ returns : tie.Need-returns
 unfolding open-answer
 returns c =
     let at-start = c .before .before .before in
-    open-above (at-start .args .rows .now) (at-start .args .line) (at-start .args .period) (c .if1 .taken)
+    open-above (at-start .args .rows .now) (at-start .args .line) (at-start .args .period .0) (c .if1 .taken)
 
 returns-2 : tie.Need-returns-2
 unfolding open-answer
 returns-2 c =
-    let in-range = c .before in
+    let in-range = c .before .before in
     let at-start = in-range .before .before .before in
-    open-zero (at-start .args .rows .now) (at-start .args .line) (at-start .args .period) (in-range .if1 .left) (c .if2 .taken)
+    open-zero (at-start .args .rows .now) (at-start .args .line) (at-start .args .period .0) (in-range .if1 .left) (c .if2 .taken)
 
 returns-3 : tie.Need-returns-3
 unfolding open-answer
 returns-3 c =
-    let not-zero = c .before in
-    let in-range = not-zero .before in
+    let not-zero = c .before .before in
+    let in-range = not-zero .before .before in
     let at-start = in-range .before .before .before in
-    open-long (at-start .args .rows .now) (at-start .args .line) (at-start .args .period) (in-range .if1 .left) (omega (arith, not-zero .if2 .left)) (c .if3 .taken)
+    open-long (at-start .args .rows .now) (at-start .args .line) (at-start .args .period .0) (in-range .if1 .left) (omega (arith, not-zero .if2 .left)) (c .if3 .taken)
 
 is-closed-requires : tie.Need-is-closed-requires
 is-closed-requires c κs = search needs
@@ -42,11 +42,11 @@ unfolding open-answer
 returns-4 c =
     let looked = c .before in
     let period-right = looked .before .before in
-    let not-zero = period-right .before in
-    let in-range = not-zero .before in
+    let not-zero = period-right .before .before in
+    let in-range = not-zero .before .before in
     let at-start = in-range .before .before .before in
-    open-again (at-start .args .rows .now) (at-start .args .line) (at-start .args .period) (at-start .pre) (in-range .if1 .left)
-    (period-in-range (at-start .args .period) (omega (arith, not-zero .if2 .left)) (period-right .if3 .left))
+    open-again (at-start .args .rows .now) (at-start .args .line) (at-start .args .period .0) (at-start .pre) (in-range .if1 .left)
+    (period-in-range (at-start .args .period .0) (omega (arith, not-zero .if2 .left)) (period-right .if3 .left))
     (sym (looked .is-closed .ensures) ∙ not-true _ (c .if4 .taken))
 
 book-line-requires : tie.Need-book-line-requires
@@ -54,13 +54,13 @@ book-line-requires c κs =
     let closed = c .before in
     let looked = closed .before in
     let period-right = looked .before .before in
-    let not-zero = period-right .before in
-    let in-range = not-zero .before in
+    let not-zero = period-right .before .before in
+    let in-range = not-zero .before .before in
     let at-start = in-range .before .before .before in
     record {
       is-legal = at-start .pre;
       number = in-range .if1 .left;
-      inside = period-in-range (at-start .args .period) (omega (arith, not-zero .if2 .left)) (period-right .if3 .left);
+      inside = period-in-range (at-start .args .period .0) (omega (arith, not-zero .if2 .left)) (period-right .if3 .left);
       absent = sym (looked .is-closed .ensures) ∙ not-false _ (closed .if4 .left);
     }
 

@@ -26,7 +26,7 @@ add-result c = search needs
 
 returns : tie.Need-returns
 unfolding answer-word joined
-returns c = rw (c .before .result-of .ensures, c .start-of .ensures)
+returns c = let after-start = c .before in rw (after-start .before .result-of .ensures, after-start .start-of .ensures)
 
 pub answer-word-spec : {M : Type 1} → statement M
 answer-word-spec =

@@ -1,11 +1,11 @@
--- `plan::ask::find_line` meets its contract: the record is a tree, or it is none and nothing is found.
+-- `plan::lookup::find_line` meets its contract: the record is a tree, or it is none and nothing is found.
 -- Assumes nothing.
 use mathlib.Core.Path.{sym, _∙_}
 use borrow.Author.Needs.{needs}
 use borrow.Author.Tests.{not-true, not-false}
-use Rattle.plan.specs.Ask.{line-found}
-use Rattle.plan.proofs.ask.find_line.Statement.{statement}
-use Rattle.plan.proofs.ask.find_line.Tie as tie
+use Rattle.plan.specs.Lookup.{line-found}
+use Rattle.plan.proofs.lookup.find_line.Statement.{statement}
+use Rattle.plan.proofs.lookup.find_line.Tie as tie
 
 legal-requires : tie.Need-legal-requires
 legal-requires c κs = search needs
