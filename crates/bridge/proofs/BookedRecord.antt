@@ -16,6 +16,8 @@ use Rattle.tree.specs.Opening.{divisor, opened, start-in, start-given}
 use Rattle.tree.specs.Asking.{rows-11}
 use Rattle.tree.specs.Record.{path-at, legal, treeOf, numbers, recordOf}
 use Rattle.paths.specs.Rules.{row-of, same-node, Spot, place-of, split-path, split-lines, booked-path, booked-at}
+use Rattle.tree.proofs.Standing.{path-stands}
+use Rattle.tree.proofs.UnderEdge.{stands-present}
 use Rattle.tree.proofs.Opening.{MayOpen, opened-legal}
 use Rattle.paths.proofs.SameNode.{same-node-none}
 use Rattle.paths.proofs.SplitLines.{split-lines-length, block-split}
@@ -147,4 +149,6 @@ module _ (plan : Plan) (L p : ℕ) (s : Spot) (is-legal : legal (plan .rows) ≡
   -- the start that the code answers
   pub booked-start : s .offset + s .class * s .step ≡ start-given p t
   unfolding start-given start-in place-of
-  booked-start = rw (found-spot .chosen-is) (cc)
+  booked-start =
+      let here = stands-present (s .line) t _ _ (path-stands (s .line) t ps line-path) in
+      rw (here, found-spot .chosen-is) (cc)

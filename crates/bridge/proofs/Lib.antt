@@ -29,6 +29,7 @@ pub mod FirstRecord
 pub mod SpotFacts
 pub mod CallsOnRecords
 pub mod CarriedLegal
+pub mod PeriodAsked
 -- The walk over paths is the walk over the tree
 pub mod WalkOnPaths
 -- Asking a record

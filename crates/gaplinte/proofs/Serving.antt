@@ -13,6 +13,7 @@ use Rattle.tree.specs.Asking.{owner, Shown}
 use Rattle.tree.specs.Calls.{Call, open-line, close-line, Answer, refused, refusal, reply, carried-out, answer-unless, answer, Outcome, gives, refuses, show-outcome, turns-outcome}
 use Rattle.tree.specs.Record.{treeOf, recordOf}
 use Rattle.bridge.specs.Rows.{tree-of, CarriedOut}
+use Rattle.bridge.proofs.PeriodAsked.{period-stands-for}
 use Rattle.lines.specs.declared.OpenAnswer.{OpenAnswer}
 use Rattle.lines.specs.declared.CloseAnswer.{CloseAnswer}
 use Rattle.lines.specs.Answers.{open-answer, close-answer}
@@ -21,7 +22,6 @@ use Rattle.plan.specs.declared.walker.WalkAnswer.{WalkAnswer}
 use Rattle.plan.specs.Meets.{plan-unless, plan-after, Meets}
 use Rattle.plan.specs.Walker.{walk-answer, WalkedOn}
 use Rattle.plan.proofs.Changes.{carried-meets}
-use Rattle.history.proofs.Replaying.{period-stands-for}
 use Rattle.lists.specs.Runs.{ListRan}
 use Rattle.gaplinte.specs.Answer.{answer-number, zero-value, numbers-or, Answers, Leaves}
 use Rattle.gaplinte.specs.Served.{plan-of, Whole, change-outcome, ChangeServed, line-or-64, OwnerServed, list-outcome, ListServed, TurnsServed, shown-numbers, ShowServed, line-number, place-of, place-numbers, WalkServed}
@@ -51,8 +51,8 @@ module _ (before copied numbers : List ℕ) (same : copied ≡ before) (L : ℕ)
       Meets (open-line L p) (plan-of before) (open-answer b) (plan-of numbers)
   unfolding plan-of
   open-carried p q a b asked carried is =
-      period-stands-for L p (plan-of before) (open-answer b) (plan-of numbers)
-      (carried-meets _ (plan-of before) numbers (open-answer b) (rw (same, asked, is) at carried))
+      carried-meets (open-line L p) (plan-of before) numbers (open-answer b)
+      (period-stands-for L p before numbers (open-answer b) (rw (same, asked, is) at carried))
 
   pub close-carried : (a b : CloseAnswer) → CarriedOut (close-line L) copied numbers (close-answer a) → a ≡ b → Meets (close-line L) (plan-of before) (close-answer b) (plan-of numbers)
   unfolding plan-of

@@ -15,7 +15,7 @@ pub extern "C" fn gaplinte_open(rows: &mut [u16], line: u64, period: u64) -> u64
     if rows.len() != 1408 {
         return WRONG_LENGTH;
     }
-    let asked = history::period_asked(period);
+    let asked = tree::period_asked(period);
     let mut numbers = rows::copied(rows);
     let answer = plan::change::open_rows(&mut numbers, line, asked);
     match answer {

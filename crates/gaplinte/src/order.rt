@@ -17,7 +17,7 @@ pub extern "C" fn gaplinte_pack(kind: u64, line: u64, period: u64, order: &mut [
     if order.len() != 3 {
         return WRONG_LENGTH;
     }
-    let packed = orders::pack(kind, line, history::period_asked(period));
+    let packed = orders::pack(kind, line, tree::period_asked(period));
     match packed {
         Packed::Order(bytes) => {
             order[0] = bytes.0;

@@ -7,7 +7,7 @@ use mathlib.Core.Logic.{_↔_}
 use mathlib.Core.Option.{Option, none, some, Option·none-ne-some}
 use Rattle.tree.specs.declared.Plan.{Plan}
 use Rattle.tree.specs.Tree.{Tree, nothing}
-use Rattle.tree.specs.Shape.{Legal}
+use Rattle.tree.specs.Asking.{owner}
 use Rattle.tree.specs.Calls.{Call, open-line, close-line, Answer, refusal, reply, carried-out, answer-unless, tree-unless, answer, after}
 use Rattle.tree.specs.Lists.{Entry, calls-of, reference-from, reference, answered-from}
 use Rattle.tree.specs.Demand3.{Demand3}
@@ -20,6 +20,7 @@ use Rattle.plan.specs.declared.ask.OwnerAnswer.{OwnerAnswer}
 use Rattle.plan.specs.declared.ask.OwnerAnswer.the-variants.{Line, Idle}
 use Rattle.plan.specs.Ask.{owner-answer}
 use Rattle.plan.specs.Meets.{empty-plan, plan-unless, plan-after, Meets}
+use Rattle.plan.proofs.Changes.{empty-tree}
 use Rattle.history.specs.Ran.{handed-on, Ran, Demand3OfCalls, NamesOwner, OwnerOfCalls}
 
 -- One call
@@ -47,14 +48,10 @@ returned-is-handed-on c plan a returned meets =
     by-refusal (open-line L p) none = refl
     by-refusal (close-line L) none = refl
 
-empty-plan-tree : treeOf empty-plan ≡ nothing
-unfolding empty-plan Legal
-empty-plan-tree = record-has-tree nothing tt
-
 -- Along a list
 
 -- what the rules say of the calls of `entries`, from the tree t
-record ByTheRules (t : Tree) (entries : List Entry) (last : Tree) : Type 0 where
+pub record ByTheRules (t : Tree) (entries : List Entry) (last : Tree) : Type 0 where
   pub answers : entries ≡ answered-from t (calls-of entries)
   pub tree : last ≡ reference-from t (calls-of entries)
 
@@ -70,19 +67,18 @@ ran-from (x ∷ xs) first last ran =
 
 -- Demand 3
 
--- every list that was run from the empty plan has the answers and the tree of the rules
-pub ran-by-the-rules : (entries : List Entry) (plan : Plan) → Ran empty-plan entries plan →
-    (entries ≡ answered-from nothing (calls-of entries)) × (treeOf plan ≡ reference (calls-of entries))
+-- the claim holds of what has the answers and the tree of the rules
+pub rules-demand-3 : (entries : List Entry) (t : Tree) → ByTheRules nothing entries t → Demand3 entries t
 unfolding reference
-ran-by-the-rules entries plan ran =
-    let rules = subst (λ (t : Tree). ByTheRules t entries (treeOf plan)) empty-plan-tree (ran-from entries empty-plan plan ran) in
-    (rules .answers, rules .tree)
+rules-demand-3 entries t rules =
+    subst (λ (xs : List Entry). Demand3 xs t) (sym (rules .answers)) (rw (rules .tree) (demand-3 (calls-of entries)))
 
 pub demand-3-of-calls : Demand3OfCalls
 unfolding Demand3OfCalls
 demand-3-of-calls entries plan ran =
-    let rules = ran-by-the-rules entries plan ran in
-    subst (λ (xs : List Entry). Demand3 xs (treeOf plan)) (sym (rules .0)) (rw (rules .1) (demand-3 (calls-of entries)))
+    rules-demand-3 entries (treeOf plan) (subst (λ (t : Tree). ByTheRules t entries (treeOf plan)) empty-tree (ran-from entries empty-plan plan ran))
+
+-- The owner call
 
 -- an answer of the owner call is a line where document 01's answer is that line
 line-named : (a : OwnerAnswer) (L : ℕ) → (a ≡ Line L) ↔ (owner-answer a ≡ some L)
@@ -90,9 +86,14 @@ unfolding owner-answer
 line-named (Line n) L = (λ e. cc, λ e. cc)
 line-named Idle L = (λ e. ap owner-answer e, λ e. absurd (Option·none-ne-some L e))
 
-pub owner-of-calls : OwnerOfCalls
-unfolding OwnerOfCalls NamesOwner Demand3OfCalls
-owner-of-calls entries plan ran round a asked L =
+-- where the claim holds, the owner call names the owner
+pub demand-3-names-owner : (entries : List Entry) (t : Tree) → Demand3 entries t → (round : ℕ) (a : OwnerAnswer) → owner-answer a ≡ owner round t → NamesOwner entries round a
+unfolding NamesOwner
+demand-3-names-owner entries t claim round a asked L =
     let named = line-named a L in
-    let owned = demand-3-of-calls entries plan ran .ownership round L in
+    let owned = claim .ownership round L in
     (λ e. owned .0 (sym asked ∙ named .0 e), λ fits. named .1 (asked ∙ owned .1 fits))
+
+pub owner-of-calls : OwnerOfCalls
+unfolding OwnerOfCalls Demand3OfCalls
+owner-of-calls entries plan ran = demand-3-names-owner entries (treeOf plan) (demand-3-of-calls entries plan ran)

@@ -1,2 +1,4 @@
 pub mod Demand3OfCalls
+pub mod Demand3OfRows
+pub mod Demand3OfLists
 pub mod Replaying

@@ -4,25 +4,24 @@ use Prim.Native.Nat.{ℕ, zero, suc, _+_, _*_, _/_, _<_, _≤_, min}
 use native.Mathlib.Nat.{min-le-left, min-le-right}
 use native.Mathlib.Numerals.{add-one}
 use native.Mathlib.Omega.{arith}
-use native.Mathlib.Decide.{decLt}
 use mathlib.Core.Path.{_≡_, refl, sym, _∙_, ap, subst}
-use mathlib.Core.Bool.{Bool, true, false}
 use mathlib.Core.List.{List, [], _∷_, _++_, append-assoc}
-use mathlib.Core.Option.{some}
+use mathlib.Core.Option.{Option, none, some}
 use lib.Dec.{ltb}
 use lib.ListN.{length, drop, getD, set, length-append, length-set}
 use lib.Seq.{drop-cons, set-at}
-use borrow.Author.Tests.{ltb-true}
 use Rattle.tree.specs.declared.Plan.{Plan}
 use Rattle.tree.specs.Search.{if_then_else_}
-use Rattle.tree.specs.Calls.{Call, open-line, Answer, refusal, answer-unless, answer}
+use Rattle.tree.specs.Calls.{Call, open-line, Answer, refusal, carried-out}
 use Rattle.tree.specs.Asking.{owner}
 use Rattle.tree.specs.Lists.{Entry, calls-of}
-use Rattle.tree.specs.Record.{treeOf}
-use Rattle.tree.proofs.Checks.{open-refused-1, open-refused-2, above-out-of-range}
+use Rattle.tree.specs.Record.{treeOf, recordOf}
+use Rattle.bridge.specs.Rows.{tree-of, rows-unless, rows-after, CarriedOut}
+use Rattle.bridge.proofs.PeriodAsked.{period-stands-for}
 use Rattle.plan.specs.declared.ask.OwnerAnswer.{OwnerAnswer}
 use Rattle.plan.specs.Ask.{owner-answer}
 use Rattle.plan.specs.Meets.{empty-plan, plan-unless, plan-after, Meets}
+use Rattle.plan.proofs.Changes.{carried-meets}
 use Rattle.history.specs.Ran.{handed-on, Ran, Demand3OfCalls, OwnerOfCalls}
 use Rattle.history.specs.Replay.{call-at, first-calls, answer-number, answer-numbers, Turned, RanFirst, Replays, ReplaysAndOwns}
 use Rattle.history.proofs.Demand3OfCalls.{returned-is-handed-on, demand-3-of-calls, owner-of-calls}
@@ -141,28 +140,18 @@ owner-after-replay numbers before after count plan replays round a asked =
 
 -- A period above 4,095
 
--- what a call answers and leaves goes by its refusal, where it is refused
-refused-alike : (c d : Call) (n : ℕ) (plan : Plan) (a : Answer) (after : Plan) → refusal c (treeOf plan) ≡ some n → refusal d (treeOf plan) ≡ some n → Meets c plan a after → Meets d plan a after
-unfolding answer answer-unless plan-after plan-unless
-refused-alike c d n plan a after at-c at-d meets =
-    record { answer-is = rw at-d (rw at-c at (meets .answer-is)); plan-is = rw at-d (rw at-c at (meets .plan-is)) }
+-- a call by value, said of the records' numbers
+meets-carried : (c : Call) (plan : Plan) (a : Answer) (after : Plan) → Meets c plan a after → CarriedOut c (plan .rows) (after .rows) a
+unfolding tree-of rows-after plan-after rows-unless plan-unless
+meets-carried c plan a after meets =
+    record { answer-is = meets .answer-is; rows-are = ap (λ (x : Plan). x .rows) (meets .plan-is) ∙ by-refusal (refusal c (treeOf plan)) }
+  where
+    by-refusal : (o : Option ℕ) → plan-unless o plan (recordOf (carried-out c (treeOf plan))) .rows ≡ rows-unless o (plan .rows) (recordOf (carried-out c (treeOf plan)) .rows)
+    by-refusal (some n) = refl
+    by-refusal none = refl
 
 -- 4,096 stands for every period above 4,095
-pub period-stands-for : (L p : ℕ) (plan : Plan) (a : Answer) (after : Plan) →
+pub opened-as-asked : (L p : ℕ) (plan : Plan) (a : Answer) (after : Plan) →
     Meets (open-line L (if ltb 4095 p then 4096 else p)) plan a after → Meets (open-line L p) plan a after
-unfolding refusal
-period-stands-for L p plan a after = by-test (ltb 4095 p) refl
-  where
-    by-test : (b : Bool) → ltb 4095 p ≡ b → Meets (open-line L (if b then 4096 else p)) plan a after → Meets (open-line L p) plan a after
-    by-test false e meets = meets
-    by-test true e meets =
-        let large = ltb-true 4095 p e in
-        elim (decLt 63 L) [
-          | yes above ↦
-              refused-alike (open-line L 4096) (open-line L p) 1 plan a after
-              (open-refused-1 L 4096 (treeOf plan) above) (open-refused-1 L p (treeOf plan) above) meets
-          | no inside ↦
-              refused-alike (open-line L 4096) (open-line L p) 2 plan a after
-              (open-refused-2 L 4096 (treeOf plan) (omega arith) (above-out-of-range 4096 (omega arith) (omega arith)))
-              (open-refused-2 L p (treeOf plan) (omega arith) (above-out-of-range p (omega arith) large)) meets
-        ]
+opened-as-asked L p plan a after meets =
+    carried-meets (open-line L p) plan (after .rows) a (period-stands-for L p (plan .rows) (after .rows) a (meets-carried _ plan a after meets))

@@ -1,2 +1,4 @@
 pub mod Ran
+pub mod RanOnRows
+pub mod OrdersRun
 pub mod Replay

@@ -1,14 +1,11 @@
 // Demand 3 over the program's own calls: a list of calls is run on the real open and close, and the whole claim is what the function ensures.
 ghost use mathlib.Core.Path.{_≡_};
-ghost use lib.Dec.{ltb};
-ghost use Rattle.tree.specs.Search.{if_then_else_};
 ghost use Rattle.tree.specs.Calls.{open-line, close-line};
 ghost use Rattle.lines.specs.Answers.{open-answer, close-answer};
 ghost use Rattle.history.specs.Replay.{call-of, answer-number, Turned, Replays, ReplaysAndOwns};
 use lines::CloseAnswer;
 use lines::OpenAnswer;
 use plan::ask::OwnerAnswer;
-use tree::Period;
 use tree::Plan;
 
 // One call's answer as a number, and the plan that it returned.
@@ -21,16 +18,6 @@ pub struct Turn {
 pub struct Replayed {
     pub count: usize,
     pub plan: Plan,
-}
-
-// A period of any size as open takes it: all above 4,095 are refused alike, so 4,096 stands for them.
-pub fn period_asked(period: u64) -> Period
-    ensures { λ r. ⌜ r .0 ≡ (if ltb 4095 period then 4096 else period) ⌝ }
-{
-    if 4095 < period {
-        return Period(4096);
-    }
-    Period(period as u16)
 }
 
 fn open_number(answer: OpenAnswer) -> u64
@@ -54,7 +41,7 @@ fn close_number(answer: CloseAnswer) -> u64
 fn run_open(plan: Plan, line: u64, period: u64) -> Turn
     ensures { λ r. ⌜ Turned (open-line line period) plan (r .answer) (r .plan) ⌝ }
 {
-    let opening = plan::change::open(plan, line, period_asked(period));
+    let opening = plan::change::open(plan, line, tree::period_asked(period));
     let answer = opening.answer;
     let booked = opening.plan;
     Turn {
@@ -106,6 +93,7 @@ pub fn replay(calls: &[u64], answers: &mut [u64]) -> Replayed
 }
 
 // The owner of a round in the plan that the lent list leaves.
+// It is there for its contract, which states of the real calls what `owner-of-calls` states of their contracts.
 pub fn replay_owner(calls: &[u64], answers: &mut [u64], round: u64) -> OwnerAnswer
     ensures { λ r. ⌜ ReplaysAndOwns (now (calls .entry)) (now (answers .entry)) (now (answers .exit)) round r ⌝ }
 {

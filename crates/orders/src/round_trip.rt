@@ -10,6 +10,7 @@ use crate::Reading;
 use tree::Period;
 
 // An order packed and then read: the arguments come back, or packing's refusal.
+// It is there for its contract, which states of the real calls what `packed-then-read-outcome` states of the definitions.
 pub fn packed_then_read(kind: u64, line: u64, period: Period) -> Reading
     ensures { λ r. ⌜ read-as r ≡ gives-unless (packing-refusal kind line (period .0)) (call-of kind line (period .0)) ⌝ }
 {
@@ -21,6 +22,7 @@ pub fn packed_then_read(kind: u64, line: u64, period: Period) -> Reading
 }
 
 // Three bytes read and then packed: the same bytes come back, or reading's refusal.
+// It is there for its contract, which states of the real calls what `read-then-packed-outcome` states of the definitions.
 pub fn read_then_packed(bytes: Bytes) -> Packed
     ensures { λ r. ⌜ packed-as r ≡ gives-unless (reading-refusal (order-of bytes)) bytes ⌝ }
 {

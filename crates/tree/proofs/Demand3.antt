@@ -188,6 +188,7 @@ demand-3 calls =
     let t = reference-from nothing calls in
     record {
       tree = ap (reference-from nothing) (sym (calls-answered calls nothing));
+      open-lines = λ L. sym (ledger-open ledger t agree L);
       ownership = owned-exactly ledger t agree;
       one-line-a-round = fits-one ledger t agree;
       nodes-above = λ L b e. rw (calls-answered calls nothing) (eleven-above ledger t agree L b e);

@@ -10,6 +10,7 @@ pub mod Put
 pub mod Proper
 pub mod Standing
 pub mod Ownership
+pub mod LedRounds
 -- Opening
 pub mod PlaceOrder
 pub mod Picking

@@ -13,7 +13,7 @@ use borrow.Author.Tests.{not-false}
 use Rattle.tree.specs.Tree.{Tree, nothing, line, node, present, is-open, Place, at-digits, at, way, step}
 use Rattle.tree.specs.Standing.{Stands}
 use Rattle.tree.specs.Shape.{LegalUnder, Alone, Legal}
-use Rattle.tree.specs.Opening.{divisor, candidate-at, put, one-edge, book-by-digits, class-at, book-into, best, chosen, opened, start-in, start-given}
+use Rattle.tree.specs.Opening.{divisor, candidate-at, put, one-edge, book-by-digits, class-at, book-into, chosen, opened, start-in, start-given}
 use Rattle.tree.proofs.Searching.{found-some}
 use Rattle.tree.proofs.Put.{put-each, one-edge-stands, stands-one-edge}
 use Rattle.tree.proofs.Proper.{Proper, one-edge-edges, legal-proper}
@@ -79,7 +79,7 @@ unfolding opened present
 opened-empty L p = refl
 
 pub start-empty : (p : ℕ) → start-given p nothing ≡ 0
-unfolding start-given start-in chosen best
+unfolding start-given present
 start-empty p = refl
 
 -- where the line is booked in a tree that is not empty
@@ -97,7 +97,7 @@ booked-in L p t may here =
       place = x .0;
       fits = chosen-fits p t (x .0) (may .period-positive) (legal-proper t (may .legal)) (x .1);
       tree = rw (here, x .1);
-      start = rw (x .1);
+      start = rw (here, x .1);
     }
 
 module _ (L p : ℕ) where

@@ -8,7 +8,7 @@ use mathlib.Core.List.{List, _∷_, _++_}
 use mathlib.Core.Option.{none, some}
 use lib.ListN.{length}
 use Rattle.tree.specs.Search.{if_then_else_, found}
-use Rattle.tree.specs.Tree.{Tree, path-of}
+use Rattle.tree.specs.Tree.{Tree, is-open, path-of}
 use Rattle.tree.specs.Opening.{NoCandidate, start-given}
 use Rattle.tree.specs.Asking.{owner}
 use Rattle.tree.specs.Refusals.{first-refusal, line-above-63, earlier-checks}
@@ -46,6 +46,8 @@ pub record CloseAnswered (ledger : Ledger) (L : ℕ) (a : Answer) : Type 0 where
 pub record Demand3 (entries : List Entry) (t : Tree) : Type 0 where
   -- the plan has the reference tree
   pub tree : t ≡ reference (calls-of entries)
+  -- the lines that stand in the tree are those that the ledger has open
+  pub open-lines : (L : ℕ) → is-open L t ≡ found (ledger-of entries L)
   -- line L is named owner of round n exactly when it is open and n fits it
   pub ownership : (n L : ℕ) → (owner n t ≡ some L) ↔ ((b : Booking) × (ledger-of entries L ≡ some b) × RoundFits n b)
   -- no round, however far on, fits two open lines

@@ -124,11 +124,11 @@ book-into L p t (some a) = book-by-digits L p (class-at p t a) 1 (a .level) (a .
 unfoldable pub opened : ℕ → ℕ → Tree → Tree
 opened L p t = if present t then book-into L p t (chosen p t) else one-edge p (line L)
 
--- (Opening a line, 8) The start r + i·m in the chosen candidate.
+-- (Opening a line, 8) The start r + i·m in the chosen candidate. Where there is none the open is refused with 5, and the 0 is answered to nobody.
 unfoldable pub start-in : ℕ → Tree → Option Place → ℕ
 start-in p t none = 0
 start-in p t (some a) = a .offset + class-at p t a * step a t
 
--- (Opening a line, 1, 8) The start answered, 0 in the empty plan.
+-- (Opening a line, 1, 8) The start answered: 0 in the empty plan, in any other that of the chosen candidate.
 unfoldable pub start-given : ℕ → Tree → ℕ
-start-given p t = start-in p t (chosen p t)
+start-given p t = if present t then start-in p t (chosen p t) else 0

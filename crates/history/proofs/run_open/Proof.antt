@@ -1,7 +1,7 @@
 -- `history::run_open` meets its contract: open's own, for the period as it was asked.
 -- Assumes nothing.
 use borrow.Author.Needs.{needs}
-use Rattle.history.proofs.Replaying.{period-stands-for}
+use Rattle.history.proofs.Replaying.{opened-as-asked}
 use Rattle.history.proofs.run_open.Statement.{statement}
 use Rattle.history.proofs.run_open.Tie as tie
 
@@ -22,7 +22,7 @@ returns c =
       meets =
           let opened = c .before .before in
           let asked = opened .before .period-asked .ensures in
-          period-stands-for _ _ _ _ _ (rw asked at (opened .open .ensures));
+          opened-as-asked _ _ _ _ _ (rw asked at (opened .open .ensures));
     }
 
 pub run-open-spec : {M : Type 1} → statement M

@@ -1,9 +1,9 @@
--- `history::period_asked` meets its contract.
+-- `tree::period_asked` meets its contract.
 -- Assumes nothing.
 use borrow.Author.Needs.{needs}
 use borrow.Author.Tests.{lt-ltb, le-ltb}
-use Rattle.history.proofs.period_asked.Statement.{statement}
-use Rattle.history.proofs.period_asked.Tie as tie
+use Rattle.tree.proofs.period_asked.Statement.{statement}
+use Rattle.tree.proofs.period_asked.Tie as tie
 
 returns : tie.Need-returns
 returns c = rw (lt-ltb _ _ (c .if1 .taken))
