@@ -25,7 +25,7 @@ pub fn print(list: &[u8], out: &mut impl Write) -> io::Result<()> {
 }
 
 /// The last two words of a printed order (Orders, 7).
-pub fn result_and_start(kind: u8, answer: [u8; ANSWER_BYTES]) -> String {
+fn result_and_start(kind: u8, answer: [u8; ANSWER_BYTES]) -> String {
     let word = u16::from_be_bytes(answer);
     let (result, start) = (word >> 12, word & 0xfff);
     if kind == 0 && result == 0 {

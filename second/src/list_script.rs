@@ -185,7 +185,7 @@ fn print_beyond(beyond: &[u8], out: &mut impl Write) -> io::Result<()> {
     writeln!(out)
 }
 
-/// Lists drawn as for `lists`, each on the plan that the one before it left, every fourth
+/// Generated lists (`lists`), each on the plan that the one before it left, every fourth
 /// on an empty plan, and every third after a number of the record was written over. Every
 /// third is run too short and with too little room first. After each list a number of the
 /// record and the plan's owners are asked.

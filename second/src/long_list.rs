@@ -1,9 +1,9 @@
 //! `second long-list SEED ORDERS SHAPE`: the bytes of one generated order list of exactly
 //! so many orders, malformed ones among them, for document 01's program `book`.
 //!
-//! It is put together from lists as `second lists` draws them, all on one plan. Before
-//! each of them every open line is closed, or about half of them, or none, so that the
-//! orders find the emptied plan, plans with gaps and full ones.
+//! It is put together from generated lists (`lists`), all on one plan. Before each of them
+//! every open line is closed, or about half of them, or none, so that the orders find the
+//! emptied plan, plans with gaps and full ones.
 //! One seed and shape give the same orders always; a larger ORDERS only adds orders.
 
 use crate::ask::show;

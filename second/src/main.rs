@@ -1,15 +1,14 @@
-//! The commands: `book`, `lists`, `long-list`, `orders`, `script`, `answers`, `list-script`
-//! and `list-answers`.
+//! The commands: `book`, `long-list`, `orders`, `script`, `answers`, `list-script` and
+//! `list-answers`.
 
 use second::long_list::MOST_ORDERS;
 use second::orders::LONGEST_LIST;
 use second::shapes::Shape;
-use second::{book, list_cases, list_script, lists, long_list, order_counts, script};
+use second::{book, list_cases, list_script, long_list, order_counts, script};
 use std::io::{self, BufWriter, Read, Write};
 use std::process::ExitCode;
 
 const USAGE: &str = "usage: second book
-       second lists SEED COUNT SHAPE
        second long-list SEED ORDERS SHAPE
        second orders
        second script cases
@@ -22,7 +21,6 @@ SEED, COUNT and ORDERS (at most 21845) are decimal, SHAPE is sparse, full, deep 
 
 enum Call {
     Book,
-    Lists(u64, u64, Shape),
     LongList(u64, usize, Shape),
     Orders,
     Cases,
@@ -37,11 +35,6 @@ fn call(arguments: &[String]) -> Option<Call> {
     let words: Vec<&str> = arguments.iter().map(String::as_str).collect();
     match words[..] {
         ["book"] => Some(Call::Book),
-        ["lists", seed, count, shape] => Some(Call::Lists(
-            seed.parse().ok()?,
-            count.parse().ok()?,
-            Shape::named(shape)?,
-        )),
         ["long-list", seed, orders, shape] => Some(Call::LongList(
             seed.parse().ok()?,
             orders.parse().ok().filter(|&it| it <= MOST_ORDERS)?,
@@ -78,7 +71,6 @@ fn run(call: Call) -> io::Result<()> {
     match call {
         // One byte above the longest list is enough to tell that a list is too long.
         Call::Book => book::print(&input(LONGEST_LIST as u64 + 1)?, &mut out)?,
-        Call::Lists(seed, count, shape) => lists::print(seed, count, shape, &mut out)?,
         Call::LongList(seed, orders, shape) => {
             out.write_all(&long_list::generate(seed, orders, shape))?;
         }

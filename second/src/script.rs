@@ -136,8 +136,8 @@ fn border_walks() -> Vec<Step> {
         .collect()
 }
 
-/// Opens and closes drawn as for `lists`, every eighth with a line or a period that no
-/// order can hold. Each list's plan is then asked and, three times over, has a number
+/// Opens and closes of generated lists (`lists`), every eighth with a line or a period that
+/// no order can hold. Each list's plan is then asked and, three times over, has a number
 /// written over, is asked again, and is given calls that change it and one that is refused.
 pub fn generated(seed: u64, count: u64, shape: Shape) -> Vec<Step> {
     let mut random = Random::new(seed);

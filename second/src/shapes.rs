@@ -4,7 +4,7 @@ use crate::orders::{pack, ORDER_BYTES};
 use crate::random::Random;
 use crate::tree::{LAST_LINE, LAST_PERIOD};
 
-/// The shapes of `second lists`.
+/// The shapes of generated lists.
 #[derive(Clone, Copy, Debug, PartialEq, Eq)]
 pub enum Shape {
     /// Few lines, many closes.
