@@ -1,73 +1,101 @@
--- The invariants of `free_class`'s loops: every class passed is taken, and none of the lines passed takes the present one.
+-- The invariants of `free_class`'s loops: every class passed has a present edge, and none of the edges passed of the present class is marked.
 -- Assumes nothing.
-use Prim.Native.Nat.{ℕ, _+_, _%_, _<_, _≤_}
+use Prim.Native.Nat.{ℕ, _+_, _*_, _/_, _%_, _<_, _≤_}
 use native.Mathlib.Omega.{arith}
+use native.Mathlib.Nat.{mod-eq-of-lt, mod-add-div, add-mul-mod-self-left, lt-of-mul-lt-mul-left, mul-zero, mul-add, mul-one}
 use mathlib.Core.Path.{_≡_, refl, sym, _∙_, ap}
-use mathlib.Core.Bool.{Bool, true, false, not, _&&_, and-false}
+use mathlib.Core.Bool.{Bool, true, false, not, _&&_, true≢false, and-eq-true-iff, and-false}
 use mathlib.Core.List.{List}
 use mathlib.Core.Option.{none, some}
 use lib.Dec.{eqb}
-use borrow.Author.Tests.{eq-eqb, ne-eqb}
+use lib.ListN.{length}
+use borrow.Author.Count.{below-none, below-more}
+use borrow.Author.Tests.{eqb-true, eq-eqb, ne-eqb}
+use Rattle.tree.specs.Search.{some-below}
 use Rattle.tree.specs.Record.{row-at, path-at}
-use Rattle.paths.specs.Rules.{row-of, same-node, class-taken, class-on-path}
-use Rattle.tree.proofs.Searching.{some-below-at}
-use Rattle.paths.proofs.AllBelow.{so-far-none, so-far-more}
-use Rattle.paths.proofs.NoneBelow.{NoneBelow, smallest-here, smallest-nowhere, none-passes}
-use Rattle.paths.proofs.SameNode.{edge-read}
+use Rattle.paths.specs.Rules.{row-of, same-node, line-under, class-taken, class-on-path}
+use Rattle.tree.proofs.Searching.{some-below-true, some-below-at, some-below-none}
+use Rattle.paths.proofs.AllBelow.{so-far-more}
+use Rattle.paths.proofs.NoneBelow.{NoneBelow, smallest-here, smallest-nowhere}
+use Rattle.candidates.specs.Edges.{marked, edge-present, MarksPresent, FirstThrough}
+use Rattle.candidates.proofs.PresentEdges.{takes-edge, edge-of-node}
 
--- line M goes through the node at level l of line L's path, and takes an edge of class i there
-abbrev pub takes : List ℕ → ℕ → ℕ → ℕ → ℕ → ℕ → Bool
-takes rows L l d i M = same-node l (path-at rows L) (path-at rows M) && eqb (row-of l (path-at rows M) .edge % d) i
-
--- no line takes class i
-abbrev pub is-free : List ℕ → ℕ → ℕ → ℕ → ℕ → Bool
+-- no line takes an edge of class i
+abbrev is-free : List ℕ → ℕ → ℕ → ℕ → ℕ → Bool
 is-free rows L l d i = not (class-taken (path-at rows) (path-at rows L) l d i)
 
 -- the classes below i were searched
 abbrev pub Classes : List ℕ → ℕ → ℕ → ℕ → ℕ → Type 0
 Classes rows L l d i = NoneBelow d (is-free rows L l d) i
 
--- of class i, which is the present one still, the lines below M were searched
-pub record Lines (rows : List ℕ) (L l d i₀ i M : ℕ) : Type 0 where
+-- of class i, which is the present one still, the edges i + d·j below e were searched
+pub record EdgesOfClass (marks : List ℕ) (d i₀ i e : ℕ) : Type 0 where
   pub present : i ≡ i₀
-  pub searched : NoneBelow 64 (takes rows L l d i) M
+  pub count : ℕ
+  pub edge-is : e ≡ i + d * count
+  pub unmarked : (j : ℕ) → j < count → marked marks (i + d * j) ≡ false
 
-pub lines-start : (rows : List ℕ) (L l d i : ℕ) → Lines rows L l d i i 0
-lines-start rows L l d i = record { present = refl; searched = so-far-none 64 (takes rows L l d i) }
+pub edges-start : (marks : List ℕ) (d i : ℕ) → EdgesOfClass marks d i i i
+edges-start marks d i = record { present = refl; count = 0; edge-is = omega (arith, mul-zero d); unmarked = below-none (λ (j : ℕ). marked marks (i + d * j) ≡ false) }
 
--- e was read as the edge in row l of line M
-module _ (rows : List ℕ) (L l d i M : ℕ) {e : ℕ} (read : e ≡ row-at rows M l .edge) where
-  takes-other-class : (e % d ≡ i → ⊥) → takes rows L l d i M ≡ false
-  takes-other-class other = edge-read rows (path-at rows L) l M read (λ k. eqb (k % d) i) ∙ rw (ne-eqb _ _ other, and-false)
+pub edges-more : {marks : List ℕ} {d i₀ i e : ℕ} → EdgesOfClass marks d i₀ i e → {b : Bool} → b ≡ marked marks e → b ≡ false → EdgesOfClass marks d i₀ i (e + d)
+edges-more {marks} {d} {i₀} {i} {e} edges answered absent = record {
+  present = edges .present;
+  count = edges .count + 1;
+  edge-is = omega (arith, edges .edge-is, mul-add d (edges .count) 1, mul-one d);
+  unmarked = below-more (λ (j : ℕ). marked marks (i + d * j) ≡ false) (edges .count) (edges .unmarked) (rw (← edges .edge-is) (sym answered ∙ absent));
+}
 
-  takes-class : e % d ≡ i → same-node l (path-at rows L) (path-at rows M) ≡ true → takes rows L l d i M ≡ true
-  takes-class same through = edge-read rows (path-at rows L) l M read (λ k. eqb (k % d) i) ∙ rw (through, eq-eqb _ _ same)
+-- A class and its edges
 
-module _ {rows : List ℕ} {L l d i₀ i M : ℕ} (lines : Lines rows L l d i₀ i M) where
-  lines-more : M < 64 → takes rows L l d i M ≡ false → Lines rows L l d i₀ i (M + 1)
-  lines-more below not-taken = record { present = lines .present; searched = so-far-more (lines .searched) below not-taken }
+module _ (rows : List ℕ) (L l : ℕ) {marks : List ℕ} (marks-present : MarksPresent (path-at rows) (path-at rows L) l marks) where
+  -- a marked edge takes its class
+  marked-takes : (d e : ℕ) → marked marks e ≡ true → class-taken (path-at rows) (path-at rows L) l d (e % d) ≡ true
+  unfolding class-taken edge-present line-under some-below
+  marked-takes d e mark =
+      let taken = some-below-true 64 (takes-edge rows L l e) (sym (marks-present .each e) ∙ mark) in
+      let M = taken .0 in
+      let both = and-eq-true-iff (same-node l (path-at rows L) (path-at rows M)) (eqb (row-of l (path-at rows M) .edge) e) .0 (taken .2) in
+      some-below-at 64 _ M (taken .1) (rw (both .0, eqb-true (row-of l (path-at rows M) .edge) e (both .1)) (eq-eqb (e % d) (e % d) refl))
 
-  module _ (below : M < 64) {e : ℕ} (read : e ≡ row-at rows M l .edge) where
-    pub other-class : (e % d ≡ i → ⊥) → Lines rows L l d i₀ i (M + 1)
-    other-class other = lines-more below (takes-other-class rows L l d i M read other)
+  module _ {d i₀ i e : ℕ} (edges : EdgesOfClass marks d i₀ i e) (classes : Classes rows L l d i₀) (in-range : i₀ < d) where
+    class-below : i < d
+    class-below = omega (arith, edges .present)
 
-    -- b answered whether the line goes through the node
-    module _ {b : Bool} (answered : b ≡ same-node l (path-at rows L) (path-at rows M)) where
-      pub other-node : b ≡ false → Lines rows L l d i₀ i (M + 1)
-      other-node apart = lines-more below (rw (sym answered ∙ apart))
+    searched : Classes rows L l d i
+    searched = rw (← edges .present) at classes
 
-      -- the class is taken: on to the next
-      pub class-passed : Classes rows L l d i₀ → i₀ < d → e % d ≡ i → b ≡ true → Classes rows L l d (i + 1)
-      unfolding class-taken
-      class-passed classes in-range same through =
-          let taken = some-below-at 64 (takes rows L l d i) M below (takes-class rows L l d i M read same (sym answered ∙ through)) in
-          so-far-more (rw (← lines .present) at classes) (omega (arith, lines .present)) (ap not taken)
+    edge-class : e % d ≡ i
+    edge-class = rw (edges .edge-is, add-mul-mod-self-left i d (edges .count)) (mod-eq-of-lt class-below)
 
-  -- no line takes it
-  pub class-free : Classes rows L l d i₀ → i₀ < d → 64 ≤ M → class-on-path (path-at rows) (path-at rows L) l d ≡ some i
-  unfolding class-on-path class-taken
-  class-free classes in-range past =
-      smallest-here (rw (← lines .present) at classes) (omega (arith, lines .present)) (ap not (none-passes (lines .searched) past))
+    -- an edge of the class is present: on to the next class
+    pub class-passed : {b : Bool} → b ≡ marked marks e → b ≡ true → Classes rows L l d (i + 1)
+    class-passed answered mark = so-far-more searched class-below (ap not (rw edge-class at (marked-takes d e (sym answered ∙ mark))))
+
+    -- w was read as the node's weight, and all edges of the class were searched
+    module _ (first : FirstThrough rows L l) (past : row-of l (path-at rows L) .weight ≤ e) where
+      edge-unmarked : (k : ℕ) → k < row-of l (path-at rows L) .weight → k % d ≡ i → marked marks k ≡ false
+      edge-unmarked k below class-is =
+          let digits : i + d * (k / d) ≡ k = rw (← class-is) (mod-add-div k d) in
+          let before : k / d < edges .count = lt-of-mul-lt-mul-left d (omega (arith, edges .edge-is, digits)) in
+          rw digits at (edges .unmarked (k / d) before)
+
+      line-elsewhere : (M : ℕ) → M < 64 → (same-node l (path-at rows L) (path-at rows M) && eqb (row-of l (path-at rows M) .edge % d) i) ≡ false
+      unfolding edge-present line-under some-below
+      line-elsewhere M below = go (same-node l (path-at rows L) (path-at rows M)) refl
+        where
+          k : ℕ
+          k = row-of l (path-at rows M) .edge
+
+          go : (b : Bool) → same-node l (path-at rows L) (path-at rows M) ≡ b → (b && eqb (k % d) i) ≡ false
+          go false apart = refl
+          go true through =
+              let present = some-below-at 64 (takes-edge rows L l k) M below (rw through (eq-eqb k k refl)) in
+              ne-eqb (k % d) i (λ same. true≢false (sym present ∙ sym (marks-present .each k) ∙ edge-unmarked k (edge-of-node first below through) same))
+
+      pub class-free : class-on-path (path-at rows) (path-at rows L) l d ≡ some i
+      unfolding class-on-path class-taken
+      class-free = smallest-here searched class-below (ap not (some-below-none 64 _ line-elsewhere))
 
 pub no-class-free : (rows : List ℕ) (L l : ℕ) {d i : ℕ} → Classes rows L l d i → d ≤ i → class-on-path (path-at rows) (path-at rows L) l d ≡ none
 unfolding class-on-path

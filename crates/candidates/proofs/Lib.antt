@@ -1,7 +1,9 @@
 pub mod Euclid
-pub mod FreeClass
 pub mod Spots
 pub mod NothingBetter
 pub mod SeenEarlier
+pub mod Marks
+pub mod PresentEdges
+pub mod FreeClass
 pub mod BetterOffer
 pub mod BestOnPath

@@ -32,7 +32,7 @@ pub record OneNode (l : ℕ) (ps qs : List Row) : Type 0 where
   pub weight-is : row-of l ps .weight ≡ row-of l qs .weight
 
 -- in one tree, two paths with the same edges as far as level l go through one node there
-pub one-node : (l : ℕ) (ps qs : List Row) → parts ps qs ≡ true → same-node l ps qs ≡ true → OneNode l ps qs
+one-node : (l : ℕ) (ps qs : List Row) → parts ps qs ≡ true → same-node l ps qs ≡ true → OneNode l ps qs
 unfolding parts same-node row-of
 one-node l [] qs part meet = absurd (false≢true part)
 one-node l (p ∷ ps) [] part meet = absurd (false≢true part)
@@ -49,6 +49,17 @@ one-node (suc l) (p ∷ ps) (q ∷ qs) part meet =
       rows-above = λ i. record { weight = parted .0 i; edge = edges i } ∷ later .rows-above i;
       weight-is = later .weight-is;
     }
+
+parts-where-met : (l : ℕ) (ps qs : List Row) → together ps qs ≡ true → same-node l ps qs ≡ true → parts ps qs ≡ true
+unfolding together no-rows same-node
+parts-where-met l [] qs t h = absurd (false≢true h)
+parts-where-met l (p ∷ ps) [] t h = absurd (false≢true h)
+parts-where-met l (p ∷ ps) (q ∷ qs) t h = t
+
+-- the same of two lines of a legal record
+pub lines-through-one : (rows : List ℕ) → legal rows ≡ true → (l M L : ℕ) → L < 64 → M < L → same-node l (path-at rows M) (path-at rows L) ≡ true → OneNode l (path-at rows M) (path-at rows L)
+lines-through-one rows is-legal l M L below earlier meet =
+    one-node l (path-at rows M) (path-at rows L) (parts-where-met l (path-at rows M) (path-at rows L) (legal-together rows is-legal L below M earlier) meet) meet
 
 -- One offer
 
@@ -78,12 +89,6 @@ same-offer family p M L l one meet o h =
 
 -- A node seen earlier
 
-parts-where-met : (l : ℕ) (ps qs : List Row) → together ps qs ≡ true → same-node l ps qs ≡ true → parts ps qs ≡ true
-unfolding together no-rows same-node
-parts-where-met l [] qs t h = absurd (false≢true h)
-parts-where-met l (p ∷ ps) [] t h = absurd (false≢true h)
-parts-where-met l (p ∷ ps) (q ∷ qs) t h = t
-
 -- it has nothing better to offer than the best so far
 pub seen-no-better : (rows : List ℕ) (p L l : ℕ) {m r : ℕ} {best : Option Spot} → legal rows ≡ true → L < 64 → Reached (path-at rows) p L l m r best → seen-earlier (path-at rows) L l ≡ true → NoBetter (spot-at (path-at rows) p L l) best
 unfolding seen-earlier
@@ -91,10 +96,9 @@ seen-no-better rows p L l is-legal below reached seen =
     let found = some-below-true L _ seen in
     let M = found .0 in
     let row-there = same-node-goes-on l (path-at rows M) (path-at rows L) (found .2) .0 in
-    let part = parts-where-met l (path-at rows M) (path-at rows L) (legal-together rows is-legal L below M (found .1)) (found .2) in
     let searched = earlier-no-better (path-at rows) p L l M l (found .1) row-there in
     rw (reached .best-is)
-    (same-offer (path-at rows) p M L l (one-node l (path-at rows M) (path-at rows L) part (found .2)) (found .2) _ searched)
+    (same-offer (path-at rows) p M L l (lines-through-one rows is-legal l M L below (found .1) (found .2)) (found .2) _ searched)
 
 -- The search of the earlier lines
 

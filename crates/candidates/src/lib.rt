@@ -7,6 +7,7 @@ ghost use Rattle.tree.specs.Numbers.{gcd, divides};
 ghost use Rattle.tree.specs.Record.{path-at, legal};
 ghost use Rattle.paths.specs.Rules.{class-on-path, spot-with, spot-at, better-spot, best-on-path, best-of-lines};
 ghost use Rattle.candidates.specs.Answers.{class-of, spot-of, comes-first, seen-earlier, Reached};
+ghost use Rattle.candidates.specs.Edges.{FirstThrough};
 use paths::edge;
 use paths::is_closed;
 use paths::path_length;
@@ -14,6 +15,8 @@ use paths::same_node;
 use paths::weight;
 use tree::Period;
 use tree::Start;
+
+mod edges;
 
 // What the search for a class finds: the smallest free one, or none.
 pub enum Class {
@@ -59,18 +62,20 @@ pub fn gcd(a: u16, b: u16) -> u16
     larger
 }
 
-// The smallest class modulo d that no line through the node takes.
+// The smallest class modulo d none of whose edges is present, of a node that no earlier line goes through.
 pub fn free_class(rows: &[u16; 1408], line: usize, level: usize, d: u16) -> Class
-    requires { ⌜ (line < 64) × (level < 11) ⌝ }
+    requires { ⌜ FirstThrough (now rows) line level ⌝ }
     ensures { λ r. ⌜ class-of r ≡ class-on-path (path-at (now (rows .entry))) (path-at (now (rows .entry)) line) level d ⌝ }
 {
+    let present = edges::present_edges(rows, line, level);
+    let w = weight(rows, line, level) as usize;
     'classes: for class in 0..d {
-        for other in 0..64 {
-            if edge(rows, other, level) % d == class {
-                if same_node(rows, line, other, level) {
-                    continue 'classes;
-                }
+        let mut e = class as usize;
+        while e < w {
+            if edges::is_marked(&present, e) {
+                continue 'classes;
             }
+            e += d as usize;
         }
         return Class::Free(class);
     }
@@ -86,7 +91,7 @@ fn spot_at(
     offset: u16,
     period: Period,
 ) -> Chosen
-    requires { ⌜ (line < 64) × (level < length (path-at (now rows) line)) × (0 < step) × (divides step (period .0) ≡ true) ⌝ }
+    requires { ⌜ FirstThrough (now rows) line level × ((0 < step) × (divides step (period .0) ≡ true)) ⌝ }
     ensures { λ r. ⌜ spot-of r ≡ spot-with (path-at (now (rows .entry))) (period .0) line level step offset ⌝ }
 {
     let divisor = gcd(weight(rows, line, level), period.0 / step);

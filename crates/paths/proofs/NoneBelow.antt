@@ -1,14 +1,25 @@
--- The invariant of a loop that searches for the smallest number that passes a test (crate tree, specs/Search.antt).
+-- The invariant of a loop that searches for the smallest number that passes a test, and a law of one that collects them (crate tree, specs/Search.antt).
 -- Assumes nothing.
-use Prim.Native.Nat.{ℕ, _<_, _≤_}
+use Prim.Native.Nat.{ℕ, _+_, _<_, _≤_}
 use native.Mathlib.Omega.{arith}
 use native.Mathlib.Nat.{lt-of-lt-of-le}
+use native.Mathlib.Numerals.{add-one}
 use mathlib.Core.Path.{_≡_, refl, sym, _∙_, ap}
-use mathlib.Core.Bool.{Bool, true, false, true≢false}
+use mathlib.Core.Bool.{Bool, true, false, _||_, true≢false}
 use mathlib.Core.Option.{Option, none, some}
-use Rattle.tree.specs.Search.{smallest, some-below}
+use Rattle.tree.specs.Search.{if_then_else_, found, or-else, first, smallest, some-below}
 use Rattle.tree.proofs.Searching.{smallest-some, smallest-none, some-below-none}
 use Rattle.paths.proofs.AllBelow.{SoFar}
+
+-- one number more is tested
+pub some-below-more : (n : ℕ) (test : ℕ → Bool) → some-below (n + 1) test ≡ (some-below n test || test n)
+unfolding some-below smallest first found or-else
+some-below-more n test = rw add-one (go (smallest n test) (test n))
+  where
+    go : (o : Option ℕ) (b : Bool) → found (or-else o (if b then some n else none)) ≡ (found o || b)
+    go none true = refl
+    go none false = refl
+    go (some i) b = refl
 
 -- the loop has come to k, and no number below k passes
 abbrev pub NoneBelow : ℕ → (ℕ → Bool) → ℕ → Type 0

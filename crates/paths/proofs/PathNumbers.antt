@@ -2,7 +2,7 @@
 -- Assumes nothing.
 use Prim.Native.Nat.{ℕ, zero, suc, _+_, _*_, _<_, _≤_, zero-le}
 use native.Mathlib.Omega.{arith}
-use native.Mathlib.Nat.{mul-one, one-mul, mul-zero, mul-add, mul-assoc, mul-left-comm, mul-le-mul-left}
+use native.Mathlib.Nat.{mul-one, one-mul, mul-zero, mul-add, mul-assoc, mul-left-comm, mul-comm, mul-le-mul-left, le-mul-of-pos-right}
 use native.Mathlib.Numerals.{add-one}
 use mathlib.Core.Path.{_≡_, refl, sym, _∙_, ap}
 use mathlib.Core.Bool.{true}
@@ -15,7 +15,7 @@ use Rattle.tree.specs.Record.{row-at, path-at, legal}
 use Rattle.tree.proofs.Standing.{sum-row}
 use Rattle.paths.specs.Rules.{row-of}
 use Rattle.paths.proofs.PathRows.{row-in-path}
-use Rattle.paths.proofs.RangeLaws.{EdgesBelow, path-edges-below, period-in-range, sum-below}
+use Rattle.paths.proofs.RangeLaws.{EdgesBelow, path-edges-below, period-in-range, row-edge-below, sum-below}
 use Rattle.paths.proofs.LegalLines.{legal-in-range}
 
 -- One row more
@@ -101,3 +101,21 @@ module _ {rows : List ℕ} {L m s k : ℕ} (carried : Carried rows L m s k) wher
         let period = period-in-range (path-at rows L) (legal-in-range rows is-legal L line-below) in
         let small : m ≤ 4095 = omega (arith, carried .product-is) in
         (small, omega (arith, carried-below))
+
+-- The numbers of one row
+
+module _ (rows : List ℕ) (is-legal : legal rows ≡ true) (L : ℕ) (line-below : L < 64) {k : ℕ} (below : k < length (path-at rows L)) where
+  pub edge-below-weight : row-of k (path-at rows L) .edge < row-of k (path-at rows L) .weight
+  edge-below-weight = row-edge-below (path-at rows L) (path-edges-below (path-at rows L) (legal-in-range rows is-legal L line-below)) k below
+
+  above : Carried rows L (product (take k (path-at rows L))) (sum (take k (path-at rows L))) k
+  above = record { within = omega arith; product-is = refl; sum-is = refl }
+
+  -- it is a factor of a product that is at most 4,095
+  pub weight-small : row-of k (path-at rows L) .weight ≤ 4095
+  weight-small =
+      let w = row-of k (path-at rows L) .weight in
+      let m = product (take k (path-at rows L)) in
+      let small : m * w ≤ 4095 = carried-small (carried-row above below refl (ap (λ (r : Row). r .weight) (row-in-path rows L below))) is-legal line-below .0 in
+      let factor : w ≤ w * m = le-mul-of-pos-right w (omega (arith, carried-below above is-legal line-below)) in
+      omega (arith, mul-comm w m)

@@ -1,18 +1,20 @@
 -- What a path in range is (`path-in-range` of crate tree, specs/Record.antt), how large its edges are, and its sum beside its product.
 -- Assumes nothing.
-use Prim.Native.Nat.{ℕ, _<_, _≤_}
+use Prim.Native.Nat.{ℕ, zero, suc, _<_, _≤_}
 use native.Mathlib.Omega.{arith}
 use mathlib.Core.Path.{_≡_, refl, sym, ap₂, subst}
 use mathlib.Core.Logic.{_⊎_, inl, inr}
 use mathlib.Core.Bool.{Bool, true, false, _||_, false≢true, and-eq-true-iff}
 use mathlib.Core.List.{List, [], _∷_}
 use lib.Dec.{eqb, ltb, leb}
+use lib.ListN.{length}
 use borrow.Author.Tests.{eqb-true, ltb-true, leb-true}
 use Rattle.tree.specs.declared.Row.{Row}
 use Rattle.tree.specs.Tree.{row, product, sum-from, sum}
 use Rattle.tree.specs.Record.{rows-in-range, alone, path-in-range}
 use Rattle.tree.proofs.Digits.{digits-below}
 use Rattle.tree.proofs.Standing.{sum-row}
+use Rattle.paths.specs.Rules.{row-of}
 
 -- A path in range is that of a line with a root of weight 1 to itself, or its rows are in range
 
@@ -66,6 +68,12 @@ path-edges-below rs in-range =
       | inl h ↦ subst EdgesBelow (sym h) (omega arith, tt)
       | inr h ↦ rows-edges-below rs h
     ]
+
+pub row-edge-below : (rs : List Row) → EdgesBelow rs → (k : ℕ) → k < length rs → row-of k rs .edge < row-of k rs .weight
+unfolding EdgesBelow row-of
+row-edge-below [] h k below = absurd (omega arith)
+row-edge-below (r ∷ rs) h zero below = h .0
+row-edge-below (r ∷ rs) h (suc k) below = row-edge-below rs (h .1) k (omega arith)
 
 -- then the sum is below the product
 pub sum-below : (rs : List Row) → EdgesBelow rs → sum rs < product rs

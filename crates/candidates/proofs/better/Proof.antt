@@ -1,6 +1,7 @@
 -- `candidates::better` meets its contract: a node that does not come first, whose step does not divide or that was seen earlier has nothing better to offer; any other is searched.
 -- Assumes nothing.
 use native.Mathlib.Omega.{arith}
+use mathlib.Core.Path.{sym, _∙_}
 use borrow.Author.Needs.{needs}
 use borrow.Author.Tests.{not-true, not-false, eq-eqb}
 use denote.Ref.{now}
@@ -38,9 +39,17 @@ returns-3 c =
 spot-at-requires : tie.Need-spot-at-requires
 unfolding divides
 spot-at-requires c κs =
-    let dividing = c .before .before in
-    let start = dividing .before .before .before .before in
-    (start .pre .0 .0, start .pre .0 .2, step-positive _ (start .pre .1) (start .pre .0 .1) (start .pre .0 .0), eq-eqb _ _ (dividing .if2 .left))
+    let after-seen = c .before in
+    let dividing = after-seen .before in
+    let start = dividing .before .before .before .before in (
+      record {
+        is-legal = start .pre .0 .1;
+        line-below = start .pre .0 .0;
+        on-path = start .pre .0 .2;
+        unseen = sym (after-seen .seen-earlier .ensures) ∙ c .if3 .left;
+      },
+      (step-positive _ (start .pre .1) (start .pre .0 .1) (start .pre .0 .0), eq-eqb _ _ (dividing .if2 .left)),
+    )
 
 enum-known-offer : tie.Need-enum-known-offer
 enum-known-offer c = search needs

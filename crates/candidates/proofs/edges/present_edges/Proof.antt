@@ -1,0 +1,98 @@
+-- `candidates::edges::present_edges` meets its contract. The invariant: marked are the edges that the lines passed take (`Marking`). The measure is how many lines are left.
+-- Assumes nothing.
+use Prim.Native.Nat.{_-_}
+use native.Mathlib.Omega.{arith}
+use mathlib.Core.Logic.{⊎-elim}
+use borrow.Author.Needs.{needs}
+use denote.Ref.{now}
+use Rattle.paths.proofs.PathRows.{within-path}
+use Rattle.candidates.proofs.Marks.{bit-of-edge}
+use Rattle.candidates.proofs.PresentEdges.{Marking, marking-start, marking-apart, marking-through, marking-all, edge-small}
+use Rattle.candidates.proofs.edges.present_edges.Statement.{statement}
+use Rattle.candidates.proofs.edges.present_edges.Tie as tie
+
+abbrev Inv-loop : tie.InvT-loop
+Inv-loop rows line level marks₀ other₀ marks other = Marking rows line level marks other
+
+abbrev μ-loop : tie.MeasureT-loop
+μ-loop rows line level marks₀ other₀ marks other = 64 - other
+
+loop-holds : tie.Need-loop-holds Inv-loop μ-loop
+loop-holds c = marking-start (c .pre)
+
+same-node-requires : tie.Need-same-node-requires Inv-loop μ-loop
+same-node-requires c κs =
+    let start = c .before .before in
+    omega (arith, within-path (now (start .args .rows)) (start .args .line) (start .pre .on-path))
+
+edge-requires : tie.Need-edge-requires Inv-loop μ-loop
+edge-requires c κs =
+    let start = c .before .before .before .before in
+    omega (arith, within-path (now (start .args .rows)) (start .args .line) (start .pre .on-path))
+
+-- the edge that was read is one of the node's, and so below 4,096
+word-in-range : tie.Need-array-read-marks Inv-loop μ-loop
+word-in-range c =
+    let through = c .before in
+    let in-loop = through .before .before in
+    let start = in-loop .before .before in
+    omega (arith, edge-small (start .pre) (in-loop .before .loop .inv) (in-loop .loop-test .taken) (through .before .same-node .ensures) (through .if1 .taken) (c .edge .ensures))
+
+cast-taken : tie.Need-cast-taken Inv-loop μ-loop
+cast-taken c = search needs
+
+mul-marks : tie.Need-mul-marks Inv-loop μ-loop
+mul-marks c = search needs
+
+array-read-marks : tie.Need-array-read-marks Inv-loop μ-loop
+array-read-marks c = word-in-range c
+
+shl-marks : tie.Need-shl-marks Inv-loop μ-loop
+shl-marks c = search needs
+
+mul-marks-2 : tie.Need-mul-marks-2 Inv-loop μ-loop
+mul-marks-2 c = search needs
+
+array-write-marks : tie.Need-array-write-marks Inv-loop μ-loop
+array-write-marks c = word-in-range c
+
+add-other : tie.Need-add-other Inv-loop μ-loop
+add-other c = search needs
+
+loop-less : tie.Need-loop-less Inv-loop μ-loop
+loop-less c = search needs
+
+loop-again : tie.Need-loop-again Inv-loop μ-loop
+loop-again c =
+    let after-test = c .before in
+    let in-loop = after-test .before in
+    let start = in-loop .before .before in
+    ⊎-elim
+    (λ way.
+    rw (way .2, bit-of-edge (way .1 .result))
+    (marking-through (start .pre) (in-loop .before .loop .inv) (in-loop .loop-test .taken) (after-test .same-node .ensures) (way .0 .taken) (way .1 .ensures)))
+    (λ way. rw (way .1) (marking-apart (start .pre) (in-loop .before .loop .inv) (in-loop .loop-test .taken) (after-test .same-node .ensures) (way .0 .left)))
+    (c .if1 .came)
+
+returns : tie.Need-returns Inv-loop μ-loop
+returns c = marking-all (c .before .loop .inv) (c .loop-test .left)
+
+pub present-edges-spec : {M : Type 1} → statement M
+present-edges-spec =
+    tie.close
+    (tie.spec
+    Inv-loop
+    μ-loop
+    loop-holds
+    same-node-requires
+    edge-requires
+    cast-taken
+    mul-marks
+    array-read-marks
+    shl-marks
+    mul-marks-2
+    array-write-marks
+    add-other
+    loop-less
+    loop-again
+    returns)

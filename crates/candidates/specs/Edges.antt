@@ -1,0 +1,32 @@
+-- The present edges of a node, marked in words of 64 bits.
+-- Assumes nothing.
+use Prim.Native.Nat.{ℕ, _/_, _%_, _^_, _<_}
+use mathlib.Core.Path.{_≡_}
+use mathlib.Core.Bool.{Bool, true, false}
+use mathlib.Core.List.{List}
+use lib.Dec.{eqb}
+use lib.ListN.{length, getD}
+use Rattle.tree.specs.declared.Row.{Row}
+use Rattle.tree.specs.Search.{found}
+use Rattle.tree.specs.Record.{path-at, legal}
+use Rattle.paths.specs.Rules.{Family, line-under}
+use Rattle.candidates.specs.Answers.{seen-earlier}
+
+-- edge e is marked: bit e % 64 of word e / 64 is set
+unfoldable pub marked : List ℕ → ℕ → Bool
+marked words e = eqb (getD words (e / 64) 0 / 2 ^ (e % 64) % 2) 1
+
+-- edge e of the node at level l of path ps is present: a line takes it
+unfoldable pub edge-present : Family → List Row → ℕ → ℕ → Bool
+edge-present family ps l e = found (line-under family ps l e)
+
+-- marked are exactly the present edges
+pub record MarksPresent (family : Family) (ps : List Row) (l : ℕ) (words : List ℕ) : Type 0 where
+  pub each : (e : ℕ) → marked words e ≡ edge-present family ps l e
+
+-- line L of a legal record is the first whose path goes through the node at level l of its path
+pub record FirstThrough (rows : List ℕ) (L l : ℕ) : Type 0 where
+  pub is-legal : legal rows ≡ true
+  pub line-below : L < 64
+  pub on-path : l < length (path-at rows L)
+  pub unseen : seen-earlier (path-at rows) L l ≡ false
