@@ -86,6 +86,7 @@ list-left-alone (n ∷ ns) t h =
     let both = neither (carried (order-answer n t)) (some-carried (list-answers (order-after n t) ns)) h in
     list-left-alone ns (order-after n t) (both .1) ∙ order-left-alone (reading n) t (both .0)
 
+-- the plan that a list leaves has the tree that the rules leave
 run-tree : (plan : Plan) (ns : List ℕ) → Legal (list-after (treeOf plan) ns) → treeOf (plan-run plan ns) ≡ list-after (treeOf plan) ns
 unfolding plan-run
 run-tree plan ns legal = by-test (some-carried (list-answers (treeOf plan) ns)) refl

@@ -46,7 +46,7 @@ pub record CloseAnswered (ledger : Ledger) (L : ℕ) (a : Answer) : Type 0 where
 pub record Demand3 (entries : List Entry) (t : Tree) : Type 0 where
   -- the plan has the reference tree
   pub tree : t ≡ reference (calls-of entries)
-  -- the lines that stand in the tree are those that the ledger has open
+  -- (The tree, 14) the lines that stand in the tree are those that the ledger has open
   pub open-lines : (L : ℕ) → is-open L t ≡ found (ledger-of entries L)
   -- line L is named owner of round n exactly when it is open and n fits it
   pub ownership : (n L : ℕ) → (owner n t ≡ some L) ↔ ((b : Booking) × (ledger-of entries L ≡ some b) × RoundFits n b)
