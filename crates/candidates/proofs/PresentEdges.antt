@@ -1,6 +1,6 @@
 -- The edges that lines take at a node which no earlier line goes through (`FirstThrough`, specs/Edges.antt), and the invariant of the loop that marks them.
 -- Assumes nothing.
-use Prim.Native.Nat.{ℕ, _+_, _/_, _%_, _^_, _<_, _≤_}
+use Prim.Native.Nat.{ℕ, _+_, _*_, _/_, _%_, _^_, _<_, _≤_}
 use native.Mathlib.Omega.{arith}
 use native.Mathlib.Nat.{eq-or-lt-of-le}
 use mathlib.Core.Path.{_≡_, refl, sym, _∙_, ap}
@@ -23,7 +23,7 @@ use Rattle.paths.proofs.SameNode.{same-node-comm, same-node-goes-on, edge-read}
 use Rattle.candidates.specs.Answers.{seen-earlier}
 use Rattle.candidates.specs.Edges.{marked, edge-present, MarksPresent, FirstThrough}
 use Rattle.candidates.proofs.SeenEarlier.{OneNode, lines-through-one}
-use Rattle.candidates.proofs.Marks.{none-marked, marked-more}
+use Rattle.candidates.proofs.Marks.{none-marked, bit-of-edge, marked-more}
 
 -- The lines through the node
 
@@ -94,11 +94,12 @@ module _ {rows : List ℕ} {L l : ℕ} (first : FirstThrough rows L l) where
       pub edge-small : e < 4096
       edge-small = omega (arith, edge-is, edge-of-node first below meets, node-weight-small first)
 
-      pub marking-through : Marking rows L l (set marks (e / 64) (bitOr (getD marks (e / 64) 0) (2 ^ (e % 64)))) (M + 1)
+      -- the word with `1 << (e % 64)`
+      pub marking-through : Marking rows L l (set marks (e / 64) (bitOr (getD marks (e / 64) 0) (1 * 2 ^ (e % 64) % 2 ^ 64))) (M + 1)
       marking-through = record {
         within = omega arith;
         words = length-set marks (e / 64) _ ∙ marking .words;
-        each = λ k. marked-more marks e (omega (arith, edge-small, marking .words)) k ∙ rw (marking .each k, some-below-more M (takes-edge rows L l k), meets, edge-is);
+        each = λ k. rw (bit-of-edge e, marked-more marks e (omega (arith, edge-small, marking .words)) k, marking .each k, some-below-more M (takes-edge rows L l k), meets, edge-is);
       }
 
 pub marking-all : {rows : List ℕ} {L l : ℕ} {marks : List ℕ} {M : ℕ} → Marking rows L l marks M → 64 ≤ M → MarksPresent (path-at rows) (path-at rows L) l marks

@@ -1,7 +1,7 @@
 // Opening and closing a line in the lent array of a legal plan record. The record stays as it was where the call is refused.
 ghost use mathlib.Core.Path.{_≡_};
 ghost use mathlib.Core.Bool.{true, false};
-ghost use Prim.Native.Nat.{_<_, _≤_};
+ghost use Prim.Native.Nat.{_<_};
 ghost use Rattle.tree.specs.Calls.{open-line, close-line, done};
 ghost use mathlib.Core.Option.{none};
 ghost use Rattle.tree.specs.Search.{all-below};

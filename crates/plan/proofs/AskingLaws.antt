@@ -1,7 +1,6 @@
 -- The ways that show and turns can go on a plan record.
 -- Assumes nothing.
 use Prim.Native.Nat.{ℕ, _+_, _/_, _<_, _≤_}
-use native.Mathlib.Omega.{arith}
 use mathlib.Core.Path.{_≡_, sym, ap}
 use mathlib.Core.Bool.{true, false}
 use mathlib.Core.List.{[]}

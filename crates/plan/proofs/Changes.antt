@@ -16,6 +16,7 @@ use Rattle.tree.specs.Asking.{rows-11}
 use Rattle.tree.specs.Calls.{Call, open-line, close-line, Answer, booked, refused, refusal, reply, carried-out, answer-unless, answer}
 use Rattle.tree.specs.Record.{legal, treeOf, numbers, numbers-below, recordOf}
 use Rattle.tree.proofs.Checks.{line-refused-4}
+use Rattle.paths.specs.declared.Found.the-variants.{Nothing}
 use Rattle.bridge.specs.Rows.{tree-of, rows-unless, rows-after, CarriedOut}
 use Rattle.bridge.proofs.TreeOfRecord.{treeOf-illegal}
 use Rattle.bridge.proofs.RecordRoundTrip.{record-legal, record-has-tree}
@@ -25,7 +26,6 @@ use Rattle.lines.specs.declared.OpenAnswer.{OpenAnswer}
 use Rattle.lines.specs.declared.OpenAnswer.the-variants.{Booked, Refused}
 use Rattle.lines.specs.Answers.{open-answer}
 use Rattle.lines.proofs.CloseLine.{close-absent}
-use Rattle.paths.specs.declared.Found.the-variants.{Nothing}
 use Rattle.plan.specs.Meets.{empty-plan, plan-unless, plan-after, Meets}
 use Rattle.plan.specs.Lookup.{line-found}
 use Rattle.plan.proofs.LineFound.{absent-or-no-tree}

@@ -41,8 +41,8 @@ returns c =
     let after-whole = after-start .before in
     let at-start = after-whole .before .before in
     let ready = at-start .pre .bookable in
-    rw (after-start .start-in .ensures, c .place-line .ensures, after-split .split-if-smaller .ensures, placed-is-booked _ _ _ _ (at-start .pre) (after-whole .whole .ensures) _ refl)
-    (open-booked-on _ (ready .is-legal) (after-whole .whole .ensures) _ _ (ready .number) (ready .inside) (ready .absent) _ (at-start .pre .found-one))
+    rw (c .place-line .ensures, after-split .split-if-smaller .ensures, placed-is-booked _ _ _ _ (at-start .pre) (after-whole .whole .ensures) _ refl)
+    (rw (← after-start .start-in .ensures) at (open-booked-on _ (ready .is-legal) (after-whole .whole .ensures) _ _ (ready .number) (ready .inside) (ready .absent) _ (at-start .pre .found-one)))
 
 pub book-at-spec : {M : Type 1} → statement M
 book-at-spec =

@@ -1,6 +1,5 @@
 -- `lists::run_checked` meets its contract: some order was carried out, or none.
 -- Assumes nothing.
-use native.Mathlib.Omega.{arith}
 use Rattle.lists.proofs.WholeList.{list-runnable, some-carried-out, none-carried-out}
 use borrow.Author.Needs.{needs}
 use Rattle.lists.proofs.run_checked.Statement.{statement}
@@ -24,7 +23,7 @@ returns : tie.Need-returns
 returns c =
     let ran = c .before .before .before .before .before .before in
     let working = ran .before .before .before in
-    some-carried-out _ _ _ _ _ _ (working .working-plan .ensures) (omega arith) (rw (c .if1 .taken) at (ran .run-orders .ensures))
+    some-carried-out _ _ _ _ _ _ (working .working-plan .ensures) (c .before .whole .ensures) (rw (c .if1 .taken) at (ran .run-orders .ensures))
 
 same-length-2 : tie.Need-same-length-2
 same-length-2 c = search needs

@@ -6,7 +6,6 @@ use mathlib.Core.Logic.{⊎-elim}
 use borrow.Author.Needs.{needs}
 use denote.Ref.{now}
 use Rattle.paths.proofs.PathRows.{within-path}
-use Rattle.candidates.proofs.Marks.{bit-of-edge}
 use Rattle.candidates.proofs.PresentEdges.{Marking, marking-start, marking-apart, marking-through, marking-all, edge-small}
 use Rattle.candidates.proofs.edges.present_edges.Statement.{statement}
 use Rattle.candidates.proofs.edges.present_edges.Tie as tie
@@ -36,7 +35,7 @@ word-in-range c =
     let through = c .before in
     let in-loop = through .before .before in
     let start = in-loop .before .before in
-    omega (arith, edge-small (start .pre) (in-loop .before .loop .inv) (in-loop .loop-test .taken) (through .before .same-node .ensures) (through .if1 .taken) (c .edge .ensures))
+    omega (arith, edge-small (start .pre) (in-loop .before .loop .inv) (omega (arith, in-loop .loop-test .taken)) (through .before .same-node .ensures) (through .if1 .taken) (c .edge .ensures))
 
 cast-taken : tie.Need-cast-taken Inv-loop μ-loop
 cast-taken c = search needs
@@ -69,9 +68,9 @@ loop-again c =
     let start = in-loop .before .before in
     ⊎-elim
     (λ way.
-    rw (way .2, bit-of-edge (way .1 .result))
-    (marking-through (start .pre) (in-loop .before .loop .inv) (in-loop .loop-test .taken) (after-test .same-node .ensures) (way .0 .taken) (way .1 .ensures)))
-    (λ way. rw (way .1) (marking-apart (start .pre) (in-loop .before .loop .inv) (in-loop .loop-test .taken) (after-test .same-node .ensures) (way .0 .left)))
+    rw (way .2)
+    (marking-through (start .pre) (in-loop .before .loop .inv) (omega (arith, in-loop .loop-test .taken)) (after-test .same-node .ensures) (way .0 .taken) (way .1 .ensures)))
+    (λ way. rw (way .1) (marking-apart (start .pre) (in-loop .before .loop .inv) (omega (arith, in-loop .loop-test .taken)) (after-test .same-node .ensures) (way .0 .left)))
     (c .if1 .came)
 
 returns : tie.Need-returns Inv-loop μ-loop
