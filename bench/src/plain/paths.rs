@@ -23,14 +23,13 @@ fn parts(a: &Path, b: &Path) -> bool {
     false
 }
 
-/// Two paths go through the same node at a level.
+/// Two paths go through the same node at a level. What most often differs is looked at first, as in the library.
 pub fn same_node(a: &Path, b: &Path, level: usize) -> bool {
-    let above = a[..level].iter().zip(&b[..level]);
-    above
-        .into_iter()
-        .all(|(a, b)| a[0] != 0 && b[0] != 0 && a[1] == b[1])
-        && a[level][0] != 0
-        && b[level][0] != 0
+    if b[level][0] == 0 || a[level][0] == 0 {
+        return false;
+    }
+    let mut above = a[..level].iter().zip(&b[..level]);
+    above.all(|(a, b)| a[1] == b[1] && a[0] != 0 && b[0] != 0)
 }
 
 /// The number of a path's rows where they are in range.

@@ -28,14 +28,34 @@ fn gcd(a: u16, b: u16) -> u16 {
     larger
 }
 
-/// The smallest class modulo d that no line through the node takes.
-fn free_class(plan: &Plan, node: Node, d: u16) -> Option<u16> {
+/// The edges of a node that lines take, as bits: edge e is bit e % 64 of word e / 64. No earlier line goes through it.
+fn present_edges(plan: &Plan, node: Node) -> [u64; 64] {
     let path = &plan[node.line];
-    (0..d).find(|&class| {
-        !plan
-            .iter()
-            .any(|other| other[node.level][1] % d == class && same_node(path, other, node.level))
-    })
+    let mut marks = [0; 64];
+    for other in &plan[node.line..] {
+        if same_node(path, other, node.level) {
+            let taken = usize::from(other[node.level][1]);
+            marks[taken / 64] |= 1 << (taken % 64);
+        }
+    }
+    marks
+}
+
+/// The smallest class modulo d none of whose edges is present.
+fn free_class(plan: &Plan, node: Node, d: u16) -> Option<u16> {
+    let present = present_edges(plan, node);
+    let weight = usize::from(plan[node.line][node.level][0]);
+    'classes: for class in 0..d {
+        let mut edge = usize::from(class);
+        while edge < weight {
+            if (present[edge / 64] >> (edge % 64)) % 2 == 1 {
+                continue 'classes;
+            }
+            edge += usize::from(d);
+        }
+        return Some(class);
+    }
+    None
 }
 
 fn spot_at(plan: &Plan, node: Node, period: u16) -> Option<Spot> {

@@ -1,6 +1,7 @@
 // The present edges of a node, marked in 64 words of 64 bits: edge e is bit e % 64 of word e / 64. A weight is at most 4,095.
 ghost use mathlib.Core.Path.{_≡_};
 ghost use Prim.Native.Nat.{_<_};
+ghost use lib.ListN.{replicate};
 ghost use Rattle.tree.specs.Record.{path-at};
 ghost use Rattle.candidates.specs.Edges.{marked, FirstThrough, MarksPresent};
 use paths::edge;
@@ -16,16 +17,14 @@ pub fn is_marked(marks: &[u64; 64], edge: usize) -> bool
 }
 
 // Marks the edges of a node that lines take: one pass over the lines, from the first whose path goes through the node.
-pub fn present_edges(rows: &[u16; 1408], line: usize, level: usize) -> [u64; 64]
-    requires { ⌜ FirstThrough (now rows) line level ⌝ }
-    ensures { λ r. ⌜ MarksPresent (path-at (now (rows .entry))) (path-at (now (rows .entry)) line) level r ⌝ }
+pub fn mark_present(rows: &[u16; 1408], line: usize, level: usize, marks: &mut [u64; 64])
+    requires { ⌜ FirstThrough (now rows) line level × (now marks ≡ replicate 64 0) ⌝ }
+    ensures { λ _. ⌜ MarksPresent (path-at (now (rows .entry))) (path-at (now (rows .entry)) line) level (now (marks .exit)) ⌝ }
 {
-    let mut marks = [0; 64];
     for other in line..64 {
         if same_node(rows, line, other, level) {
             let taken = edge(rows, other, level) as usize;
             marks[taken / 64] = marks[taken / 64] | (1 << (taken % 64));
         }
     }
-    marks
 }

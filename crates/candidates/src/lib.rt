@@ -67,7 +67,8 @@ pub fn free_class(rows: &[u16; 1408], line: usize, level: usize, d: u16) -> Clas
     requires { ⌜ FirstThrough (now rows) line level ⌝ }
     ensures { λ r. ⌜ class-of r ≡ class-on-path (path-at (now (rows .entry))) (path-at (now (rows .entry)) line) level d ⌝ }
 {
-    let present = edges::present_edges(rows, line, level);
+    let mut present = [0; 64];
+    edges::mark_present(rows, line, level, &mut present);
     let w = weight(rows, line, level) as usize;
     'classes: for class in 0..d {
         let mut e = class as usize;

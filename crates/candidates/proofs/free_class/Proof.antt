@@ -26,12 +26,12 @@ Inv-classes rows line level d present w class₀ class = Classes rows line level
 abbrev μ-classes : tie.MeasureT-classes
 μ-classes rows line level d present w class₀ class = d - class
 
-present-edges-requires : tie.Need-present-edges-requires Inv-loop μ-loop Inv-classes μ-classes
-present-edges-requires c κs = search needs
+mark-present-requires : tie.Need-mark-present-requires Inv-loop μ-loop Inv-classes μ-classes
+mark-present-requires c κs = search needs
 
 weight-requires : tie.Need-weight-requires Inv-loop μ-loop Inv-classes μ-classes
 weight-requires c κs =
-    let start = c .before in
+    let start = c .before .before in
     (start .pre .line-below, within-path (now (start .args .rows)) (start .args .line) (start .pre .on-path))
 
 cast-w : tie.Need-cast-w Inv-loop μ-loop Inv-classes μ-classes
@@ -50,7 +50,7 @@ is-marked-requires : tie.Need-is-marked-requires Inv-loop μ-loop Inv-classes μ
 is-marked-requires c κs =
     let in-loop = c .before in
     let after-weight = in-loop .before .before .before .before in
-    let start = after-weight .before .before in
+    let start = after-weight .before .before .before in
     omega (arith, in-loop .loop-test .taken, node-weight-small (start .pre), weight-read _ _ (start .pre .on-path) (after-weight .weight .ensures))
 
 add-class : tie.Need-add-class Inv-loop μ-loop Inv-classes μ-classes
@@ -64,8 +64,8 @@ classes-again c =
     let after-mark = c .before in
     let in-loop = after-mark .before .before in
     let in-classes = in-loop .before .before in
-    let after-edges = in-classes .before .before .before in
-    class-passed _ _ _ (after-edges .present-edges .ensures) (in-loop .before .loop .inv) (in-classes .before .classes .inv) (in-classes .classes-test .taken) (after-mark .is-marked .ensures) (c .if1 .taken)
+    let after-marks = in-classes .before .before .before in
+    class-passed _ _ _ (after-marks .mark-present .ensures) (in-loop .before .loop .inv) (in-classes .before .classes .inv) (in-classes .classes-test .taken) (after-mark .is-marked .ensures) (c .if1 .taken)
 
 add-e : tie.Need-add-e Inv-loop μ-loop Inv-classes μ-classes
 add-e c = search needs
@@ -83,9 +83,9 @@ unfolding class-of
 returns c =
     let in-classes = c .before .before in
     let after-weight = in-classes .before .before in
-    let start = after-weight .before .before in
+    let start = after-weight .before .before .before in
     let weight-is = weight-read _ _ (start .pre .on-path) (after-weight .weight .ensures) in
-    sym (class-free _ _ _ (after-weight .before .present-edges .ensures) (c .before .loop .inv) (in-classes .before .classes .inv) (in-classes .classes-test .taken) (start .pre) (rw weight-is (c .loop-test .left)))
+    sym (class-free _ _ _ (after-weight .before .mark-present .ensures) (c .before .loop .inv) (in-classes .before .classes .inv) (in-classes .classes-test .taken) (start .pre) (rw weight-is (c .loop-test .left)))
 
 returns-2 : tie.Need-returns-2 Inv-loop μ-loop Inv-classes μ-classes
 unfolding class-of
@@ -99,7 +99,7 @@ free-class-spec =
     μ-loop
     Inv-classes
     μ-classes
-    present-edges-requires
+    mark-present-requires
     weight-requires
     cast-w
     classes-holds

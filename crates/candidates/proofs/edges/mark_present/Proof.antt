@@ -1,4 +1,4 @@
--- `candidates::edges::present_edges` meets its contract. The invariant: marked are the edges that the lines passed take (`Marking`). The measure is how many lines are left.
+-- `candidates::edges::mark_present` meets its contract. The invariant: marked are the edges that the lines passed take (`Marking`). The measure is how many lines are left.
 -- Assumes nothing.
 use Prim.Native.Nat.{_-_}
 use native.Mathlib.Omega.{arith}
@@ -7,8 +7,8 @@ use borrow.Author.Needs.{needs}
 use denote.Ref.{now}
 use Rattle.paths.proofs.PathRows.{within-path}
 use Rattle.candidates.proofs.PresentEdges.{Marking, marking-start, marking-apart, marking-through, marking-all, edge-small}
-use Rattle.candidates.proofs.edges.present_edges.Statement.{statement}
-use Rattle.candidates.proofs.edges.present_edges.Tie as tie
+use Rattle.candidates.proofs.edges.mark_present.Statement.{statement}
+use Rattle.candidates.proofs.edges.mark_present.Tie as tie
 
 abbrev Inv-loop : tie.InvT-loop
 Inv-loop rows line level marks₀ other₀ marks other = Marking rows line level marks other
@@ -17,25 +17,25 @@ abbrev μ-loop : tie.MeasureT-loop
 μ-loop rows line level marks₀ other₀ marks other = 64 - other
 
 loop-holds : tie.Need-loop-holds Inv-loop μ-loop
-loop-holds c = marking-start (c .pre)
+loop-holds c = rw (c .pre .1) (marking-start (c .pre .0))
 
 same-node-requires : tie.Need-same-node-requires Inv-loop μ-loop
 same-node-requires c κs =
     let start = c .before .before in
-    omega (arith, within-path (now (start .args .rows)) (start .args .line) (start .pre .on-path))
+    omega (arith, within-path (now (start .args .rows)) (start .args .line) (start .pre .0 .on-path))
 
 edge-requires : tie.Need-edge-requires Inv-loop μ-loop
 edge-requires c κs =
     let start = c .before .before .before .before in
-    omega (arith, within-path (now (start .args .rows)) (start .args .line) (start .pre .on-path))
+    omega (arith, within-path (now (start .args .rows)) (start .args .line) (start .pre .0 .on-path))
 
 -- the edge that was read is one of the node's, and so below 4,096
-word-in-range : tie.Need-array-read-marks Inv-loop μ-loop
+word-in-range : tie.Need-element-copy-out-marks Inv-loop μ-loop
 word-in-range c =
     let through = c .before in
     let in-loop = through .before .before in
     let start = in-loop .before .before in
-    omega (arith, edge-small (start .pre) (in-loop .before .loop .inv) (omega (arith, in-loop .loop-test .taken)) (through .before .same-node .ensures) (through .if1 .taken) (c .edge .ensures))
+    omega (arith, edge-small (start .pre .0) (in-loop .before .loop .inv) (omega (arith, in-loop .loop-test .taken)) (through .before .same-node .ensures) (through .if1 .taken) (c .edge .ensures))
 
 cast-taken : tie.Need-cast-taken Inv-loop μ-loop
 cast-taken c = search needs
@@ -43,8 +43,8 @@ cast-taken c = search needs
 mul-marks : tie.Need-mul-marks Inv-loop μ-loop
 mul-marks c = search needs
 
-array-read-marks : tie.Need-array-read-marks Inv-loop μ-loop
-array-read-marks c = word-in-range c
+element-copy-out-marks : tie.Need-element-copy-out-marks Inv-loop μ-loop
+element-copy-out-marks c = word-in-range c
 
 shl-marks : tie.Need-shl-marks Inv-loop μ-loop
 shl-marks c = search needs
@@ -52,8 +52,8 @@ shl-marks c = search needs
 mul-marks-2 : tie.Need-mul-marks-2 Inv-loop μ-loop
 mul-marks-2 c = search needs
 
-array-write-marks : tie.Need-array-write-marks Inv-loop μ-loop
-array-write-marks c = word-in-range c
+element-write-marks : tie.Need-element-write-marks Inv-loop μ-loop
+element-write-marks c = word-in-range (c .before)
 
 add-other : tie.Need-add-other Inv-loop μ-loop
 add-other c = search needs
@@ -68,16 +68,16 @@ loop-again c =
     let start = in-loop .before .before in
     ⊎-elim
     (λ way.
-    rw (way .2)
-    (marking-through (start .pre) (in-loop .before .loop .inv) (omega (arith, in-loop .loop-test .taken)) (after-test .same-node .ensures) (way .0 .taken) (way .1 .ensures)))
-    (λ way. rw (way .1) (marking-apart (start .pre) (in-loop .before .loop .inv) (omega (arith, in-loop .loop-test .taken)) (after-test .same-node .ensures) (way .0 .left)))
+    rw (way .3)
+    (marking-through (start .pre .0) (in-loop .before .loop .inv) (omega (arith, in-loop .loop-test .taken)) (after-test .same-node .ensures) (way .0 .taken) (way .1 .ensures)))
+    (λ way. rw (way .1) (marking-apart (start .pre .0) (in-loop .before .loop .inv) (omega (arith, in-loop .loop-test .taken)) (after-test .same-node .ensures) (way .0 .left)))
     (c .if1 .came)
 
 returns : tie.Need-returns Inv-loop μ-loop
 returns c = marking-all (c .before .loop .inv) (c .loop-test .left)
 
-pub present-edges-spec : {M : Type 1} → statement M
-present-edges-spec =
+pub mark-present-spec : {M : Type 1} → statement M
+mark-present-spec =
     tie.close
     (tie.spec
     Inv-loop
@@ -87,10 +87,10 @@ present-edges-spec =
     edge-requires
     cast-taken
     mul-marks
-    array-read-marks
+    element-copy-out-marks
     shl-marks
     mul-marks-2
-    array-write-marks
+    element-write-marks
     add-other
     loop-less
     loop-again
