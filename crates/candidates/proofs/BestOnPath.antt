@@ -2,8 +2,9 @@
 -- Assumes nothing.
 use Prim.Native.Nat.{ℕ, _+_, _*_, _<_, _≤_, zero-le}
 use native.Mathlib.Omega.{arith}
+use native.Mathlib.Nat.{le-refl}
 use native.Mathlib.Numerals.{add-one}
-use mathlib.Core.Path.{_≡_, refl}
+use mathlib.Core.Path.{_≡_, refl, sym, _∙_}
 use mathlib.Core.Bool.{true}
 use mathlib.Core.List.{List}
 use mathlib.Core.Option.{Option}
@@ -15,6 +16,8 @@ use Rattle.paths.proofs.RowLaws.{no-rows-empty}
 use Rattle.candidates.specs.declared.Chosen.{Chosen}
 use Rattle.candidates.specs.declared.Chosen.the-variants.{Nothing}
 use Rattle.candidates.specs.Answers.{spot-of, Reached}
+use Rattle.candidates.specs.Edges.{ClosedFrom}
+use Rattle.candidates.proofs.LinesEnd.{best-before-end}
 
 -- Along one path
 
@@ -77,7 +80,5 @@ module _ {rows : List ℕ} {p : ℕ} {best : Chosen} {n : ℕ} (best-of : BestOf
   unfolding best-on-path
   best-of-closed below closed = best-of-more below (rw (no-rows-empty (path-at rows n) closed))
 
-  pub best-of-all : 64 ≤ n → spot-of best ≡ best-of-lines (path-at rows) p 64
-  best-of-all past =
-      let e : n ≡ 64 = omega (arith, best-of .within) in
-      rw e at (best-of .best-is)
+  pub best-of-all : {end : ℕ} → ClosedFrom rows end → end ≤ n → spot-of best ≡ best-of-lines (path-at rows) p 64
+  best-of-all from past = best-of .best-is ∙ best-before-end from p n past (best-of .within) ∙ sym (best-before-end from p 64 (from .within) (le-refl 64))

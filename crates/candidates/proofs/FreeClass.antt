@@ -73,7 +73,7 @@ module _ (rows : List ℕ) (L l : ℕ) {marks : List ℕ} (marks-present : Marks
     class-passed answered mark = so-far-more searched class-below (ap not (rw edge-class at (marked-takes d e (sym answered ∙ mark))))
 
     -- w was read as the node's weight, and all edges of the class were searched
-    module _ (first : FirstThrough rows L l) (past : row-of l (path-at rows L) .weight ≤ e) where
+    module _ {end : ℕ} (first : FirstThrough rows end L l) (past : row-of l (path-at rows L) .weight ≤ e) where
       edge-unmarked : (k : ℕ) → k < row-of l (path-at rows L) .weight → k % d ≡ i → marked marks k ≡ false
       edge-unmarked k below class-is =
           let digits : i + d * (k / d) ≡ k = rw (← class-is) (mod-add-div k d) in

@@ -7,3 +7,4 @@ pub mod PresentEdges
 pub mod FreeClass
 pub mod BetterOffer
 pub mod BestOnPath
+pub mod LinesEnd

@@ -16,10 +16,11 @@ use Rattle.tree.specs.Search.{found, smallest, some-below}
 use Rattle.tree.specs.Record.{row-at, path-at, legal}
 use Rattle.paths.specs.Rules.{row-of, same-node, line-under}
 use Rattle.tree.proofs.Searching.{some-below-false, some-below-none}
-use Rattle.paths.proofs.NoneBelow.{some-below-more}
+use Rattle.paths.proofs.NoneBelow.{some-below-more, some-below-up-to}
+use Rattle.paths.proofs.RowLaws.{no-rows-empty}
 use Rattle.paths.proofs.PathNumbers.{edge-below-weight, weight-small}
 use Rattle.paths.proofs.PathRows.{row-in-path}
-use Rattle.paths.proofs.SameNode.{same-node-comm, same-node-goes-on, edge-read}
+use Rattle.paths.proofs.SameNode.{same-node-none, same-node-comm, same-node-goes-on, edge-read}
 use Rattle.candidates.specs.Answers.{seen-earlier}
 use Rattle.candidates.specs.Edges.{marked, edge-present, MarksPresent, FirstThrough}
 use Rattle.candidates.proofs.SeenEarlier.{OneNode, lines-through-one}
@@ -27,7 +28,7 @@ use Rattle.candidates.proofs.Marks.{none-marked, bit-of-edge, marked-mo
 
 -- The lines through the node
 
-module _ {rows : List ℕ} {L l : ℕ} (first : FirstThrough rows L l) {M : ℕ} where
+module _ {rows : List ℕ} {end L l : ℕ} (first : FirstThrough rows end L l) {M : ℕ} where
   earlier-line-apart : M < L → same-node l (path-at rows L) (path-at rows M) ≡ false
   unfolding seen-earlier
   earlier-line-apart earlier = same-node-comm l (path-at rows L) (path-at rows M) ∙ some-below-false L _ (first .unseen) M earlier
@@ -51,8 +52,8 @@ module _ {rows : List ℕ} {L l : ℕ} (first : FirstThrough rows L l) {M : ℕ}
     pub edge-of-node : row-of l (path-at rows M) .edge < row-of l (path-at rows L) .weight
     edge-of-node = rw one-weight at (edge-below-weight rows (first .is-legal) M below (same-node-goes-on l (path-at rows L) (path-at rows M) through .1))
 
-pub node-weight-small : {rows : List ℕ} {L l : ℕ} → FirstThrough rows L l → row-of l (path-at rows L) .weight ≤ 4095
-node-weight-small {rows} {L} first = weight-small rows (first .is-legal) L (first .line-below) (first .on-path)
+pub node-weight-small : {rows : List ℕ} {end L l : ℕ} → FirstThrough rows end L l → row-of l (path-at rows L) .weight ≤ 4095
+node-weight-small {rows} {L = L} first = weight-small rows (first .is-legal) L (first .line-below) (first .on-path)
 
 -- The loop
 
@@ -66,7 +67,7 @@ pub record Marking (rows : List ℕ) (L l : ℕ) (marks : List ℕ) (M : ℕ) : 
   pub words : length marks ≡ 64
   pub each : (e : ℕ) → marked marks e ≡ some-below M (takes-edge rows L l e)
 
-module _ {rows : List ℕ} {L l : ℕ} (first : FirstThrough rows L l) where
+module _ {rows : List ℕ} {end L l : ℕ} (first : FirstThrough rows end L l) where
   -- no line below L goes through the node
   pub marking-start : Marking rows L l (replicate 64 0) L
   marking-start = record {
@@ -102,8 +103,13 @@ module _ {rows : List ℕ} {L l : ℕ} (first : FirstThrough rows L l) where
         each = λ k. rw (bit-of-edge e, marked-more marks e (omega (arith, edge-small, marking .words)) k, marking .each k, some-below-more M (takes-edge rows L l k), meets, edge-is);
       }
 
-pub marking-all : {rows : List ℕ} {L l : ℕ} {marks : List ℕ} {M : ℕ} → Marking rows L l marks M → 64 ≤ M → MarksPresent (path-at rows) (path-at rows L) l marks
+-- the lines from `end` on are closed and take no edge
+pub marking-all : {rows : List ℕ} {end L l : ℕ} → FirstThrough rows end L l → {marks : List ℕ} {M : ℕ} → Marking rows L l marks M → end ≤ M → MarksPresent (path-at rows) (path-at rows L) l marks
 unfolding edge-present line-under some-below
-marking-all {M = M} marking past =
-    let all : M ≡ 64 = omega (arith, marking .within) in
-    record { each = λ e. rw all at (marking .each e) }
+marking-all {rows} {end} {L} {l} first {M = M} marking past =
+    record { each = λ e. marking .each e ∙ sym (some-below-up-to (takes-edge rows L l e) (marking .within) (closed-apart e)) }
+  where
+    closed-apart : (e N : ℕ) → M ≤ N → N < 64 → takes-edge rows L l e N ≡ false
+    closed-apart e N later below =
+        let no-path = no-rows-empty (path-at rows N) (first .lines .closed N (omega arith) below) in
+        rw (no-path, same-node-none l (path-at rows L))

@@ -16,12 +16,18 @@ pub fn is_marked(marks: &[u64; 64], edge: usize) -> bool
     (word >> (edge % 64)) % 2 == 1
 }
 
-// Marks the edges of a node that lines take: one pass over the lines, from the first whose path goes through the node.
-pub fn mark_present(rows: &[u16; 1408], line: usize, level: usize, marks: &mut [u64; 64])
-    requires { ⌜ FirstThrough (now rows) line level × (now marks ≡ replicate 64 0) ⌝ }
+// Marks the edges of a node that lines take: one pass over the lines, from the first whose path goes through the node up to the last open one.
+pub fn mark_present(
+    rows: &[u16; 1408],
+    end: usize,
+    line: usize,
+    level: usize,
+    marks: &mut [u64; 64],
+)
+    requires { ⌜ FirstThrough (now rows) end line level × (now marks ≡ replicate 64 0) ⌝ }
     ensures { λ _. ⌜ MarksPresent (path-at (now (rows .entry))) (path-at (now (rows .entry)) line) level (now (marks .exit)) ⌝ }
 {
-    for other in line..64 {
+    for other in line..end {
         if same_node(rows, line, other, level) {
             let taken = edge(rows, other, level) as usize;
             marks[taken / 64] = marks[taken / 64] | (1 << (taken % 64));

@@ -7,7 +7,7 @@ ghost use Rattle.tree.specs.Numbers.{gcd, divides};
 ghost use Rattle.tree.specs.Record.{path-at, legal};
 ghost use Rattle.paths.specs.Rules.{class-on-path, spot-with, spot-at, better-spot, best-on-path, best-of-lines};
 ghost use Rattle.candidates.specs.Answers.{class-of, spot-of, comes-first, seen-earlier, Reached};
-ghost use Rattle.candidates.specs.Edges.{FirstThrough};
+ghost use Rattle.candidates.specs.Edges.{ClosedFrom, EndOfLines, FirstThrough};
 use paths::edge;
 use paths::is_closed;
 use paths::path_length;
@@ -63,12 +63,12 @@ pub fn gcd(a: u16, b: u16) -> u16
 }
 
 // The smallest class modulo d none of whose edges is present, of a node that no earlier line goes through.
-pub fn free_class(rows: &[u16; 1408], line: usize, level: usize, d: u16) -> Class
-    requires { ⌜ FirstThrough (now rows) line level ⌝ }
+pub fn free_class(rows: &[u16; 1408], end: usize, line: usize, level: usize, d: u16) -> Class
+    requires { ⌜ FirstThrough (now rows) end line level ⌝ }
     ensures { λ r. ⌜ class-of r ≡ class-on-path (path-at (now (rows .entry))) (path-at (now (rows .entry)) line) level d ⌝ }
 {
     let mut present = [0; 64];
-    edges::mark_present(rows, line, level, &mut present);
+    edges::mark_present(rows, end, line, level, &mut present);
     let w = weight(rows, line, level) as usize;
     'classes: for class in 0..d {
         let mut e = class as usize;
@@ -86,17 +86,18 @@ pub fn free_class(rows: &[u16; 1408], line: usize, level: usize, d: u16) -> Clas
 // What the node at a level of a line's path has to offer, where its step divides the period.
 fn spot_at(
     rows: &[u16; 1408],
+    end: usize,
     line: usize,
     level: usize,
     step: u16,
     offset: u16,
     period: Period,
 ) -> Chosen
-    requires { ⌜ FirstThrough (now rows) line level × ((0 < step) × (divides step (period .0) ≡ true)) ⌝ }
+    requires { ⌜ FirstThrough (now rows) end line level × ((0 < step) × (divides step (period .0) ≡ true)) ⌝ }
     ensures { λ r. ⌜ spot-of r ≡ spot-with (path-at (now (rows .entry))) (period .0) line level step offset ⌝ }
 {
     let divisor = gcd(weight(rows, line, level), period.0 / step);
-    let found = free_class(rows, line, level, divisor);
+    let found = free_class(rows, end, line, level, divisor);
     let Class::Free(class) = found else {
         return Chosen::Nothing;
     };
@@ -140,6 +141,7 @@ fn seen_earlier(rows: &[u16; 1408], line: usize, level: usize) -> bool
 // No class is searched for where the node would not come first, or was seen on the path of an earlier line.
 fn better(
     rows: &[u16; 1408],
+    end: usize,
     line: usize,
     level: usize,
     step: u16,
@@ -147,7 +149,7 @@ fn better(
     period: Period,
     best: Chosen,
 ) -> Chosen
-    requires { ⌜ (line < 64) × (legal (now rows) ≡ true) × (level < length (path-at (now rows) line)) ⌝ }
+    requires { ⌜ (line < 64) × (legal (now rows) ≡ true) × (level < length (path-at (now rows) line)) × ClosedFrom (now rows) end ⌝ }
     requires { ⌜ Reached (path-at (now rows)) (period .0) line level step offset (spot-of best) ⌝ }
     ensures { λ r. ⌜ spot-of r ≡ better-spot (spot-of best) (spot-at (path-at (now (rows .entry))) (period .0) line level) ⌝ }
 {
@@ -160,7 +162,7 @@ fn better(
     if seen_earlier(rows, line, level) {
         return best;
     }
-    let offer = spot_at(rows, line, level, step, offset, period);
+    let offer = spot_at(rows, end, line, level, step, offset, period);
     let Chosen::At(spot) = offer else {
         return best;
     };
@@ -168,8 +170,14 @@ fn better(
 }
 
 // The best of the earlier lines, or the best node of a line's path where that comes first.
-fn best_on_path(rows: &[u16; 1408], line: usize, period: Period, earlier: Chosen) -> Chosen
-    requires { ⌜ (line < 64) × (legal (now rows) ≡ true) ⌝ }
+fn best_on_path(
+    rows: &[u16; 1408],
+    end: usize,
+    line: usize,
+    period: Period,
+    earlier: Chosen,
+) -> Chosen
+    requires { ⌜ (line < 64) × (legal (now rows) ≡ true) × ClosedFrom (now rows) end ⌝ }
     requires { ⌜ spot-of earlier ≡ best-of-lines (path-at (now rows)) (period .0) line ⌝ }
     ensures { λ r. ⌜ spot-of r ≡ best-on-path (path-at (now (rows .entry))) (period .0) (spot-of earlier) line (length (path-at (now (rows .entry)) line)) ⌝ }
 {
@@ -178,11 +186,25 @@ fn best_on_path(rows: &[u16; 1408], line: usize, period: Period, earlier: Chosen
     let mut step: u16 = 1;
     let mut offset: u16 = 0;
     for level in 0..count {
-        best = better(rows, line, level, step, offset, period, best);
+        best = better(rows, end, line, level, step, offset, period, best);
         offset += edge(rows, line, level) * step;
         step *= weight(rows, line, level);
     }
     best
+}
+
+// One more than the largest number of an open line, 0 in the empty plan. The search looks at no line from there on.
+fn lines_end(rows: &[u16; 1408]) -> usize
+    ensures { λ r. ⌜ EndOfLines (now (rows .entry)) r ⌝ }
+{
+    let mut end = 64;
+    while 0 < end {
+        if !is_closed(rows, end - 1) {
+            return end;
+        }
+        end -= 1;
+    }
+    end
 }
 
 // The chosen candidate for a period. A closed line is passed without a copy of the best so far.
@@ -190,12 +212,13 @@ pub fn best_candidate(rows: &[u16; 1408], period: Period) -> Chosen
     requires { ⌜ legal (now rows) ≡ true ⌝ }
     ensures { λ r. ⌜ spot-of r ≡ best-of-lines (path-at (now (rows .entry))) (period .0) 64 ⌝ }
 {
+    let end = lines_end(rows);
     let mut best = Chosen::Nothing;
-    for line in 0..64 {
+    for line in 0..end {
         if is_closed(rows, line) {
             continue;
         }
-        best = best_on_path(rows, line, period, best);
+        best = best_on_path(rows, end, line, period, best);
     }
     best
 }

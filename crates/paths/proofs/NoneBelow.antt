@@ -7,8 +7,10 @@ use native.Mathlib.Numerals.{add-one}
 use mathlib.Core.Path.{_≡_, refl, sym, _∙_, ap}
 use mathlib.Core.Bool.{Bool, true, false, _||_, true≢false}
 use mathlib.Core.Option.{Option, none, some}
+use lib.Dec.{ltb}
+use borrow.Author.Tests.{ltb-true, ltb-false}
 use Rattle.tree.specs.Search.{if_then_else_, found, or-else, first, smallest, some-below}
-use Rattle.tree.proofs.Searching.{smallest-some, smallest-none, some-below-none}
+use Rattle.tree.proofs.Searching.{smallest-some, smallest-none, some-below-true, some-below-false, some-below-at, some-below-none}
 use Rattle.paths.proofs.AllBelow.{SoFar}
 
 -- one number more is tested
@@ -20,6 +22,18 @@ some-below-more n test = rw add-one (go (smallest n test) (test n))
     go none true = refl
     go none false = refl
     go (some i) b = refl
+
+-- no number from n on passes
+pub some-below-up-to : (test : ℕ → Bool) {n m : ℕ} → n ≤ m → ((i : ℕ) → n ≤ i → i < m → test i ≡ false) → some-below m test ≡ some-below n test
+some-below-up-to test {n} {m} within later = go (some-below n test) refl
+  where
+    by-side : some-below n test ≡ false → (i : ℕ) → i < m → (b : Bool) → ltb i n ≡ b → test i ≡ false
+    by-side e i below true h = some-below-false n test e i (ltb-true i n h)
+    by-side e i below false h = later i (ltb-false i n h) below
+
+    go : (b : Bool) → some-below n test ≡ b → some-below m test ≡ some-below n test
+    go true e = let x = some-below-true n test e in some-below-at m test (x .0) (lt-of-lt-of-le (x .1) within) (x .2) ∙ sym e
+    go false e = some-below-none m test (λ i below. by-side e i below (ltb i n) refl) ∙ sym e
 
 -- the loop has come to k, and no number below k passes
 abbrev pub NoneBelow : ℕ → (ℕ → Bool) → ℕ → Type 0

@@ -1,4 +1,4 @@
--- `candidates::best_candidate` meets its contract. The invariant: the best of the lines passed. The measure is how many of the 64 lines are left.
+-- `candidates::best_candidate` meets its contract. The invariant: the best of the lines passed. The measure is how many lines are left before the end of the open ones.
 -- Assumes nothing.
 use Prim.Native.Nat.{_-_}
 use native.Mathlib.Omega.{arith}
@@ -9,10 +9,13 @@ use Rattle.candidates.proofs.best_candidate.Statement.{statement}
 use Rattle.candidates.proofs.best_candidate.Tie as tie
 
 abbrev Inv-loop : tie.InvT-loop
-Inv-loop rows period best₀ line₀ best line = BestOf rows (period .0) best line
+Inv-loop rows period end best₀ line₀ best line = BestOf rows (period .0) best line
 
 abbrev μ-loop : tie.MeasureT-loop
-μ-loop rows period best₀ line₀ best line = 64 - line
+μ-loop rows period end best₀ line₀ best line = end - line
+
+lines-end-requires : tie.Need-lines-end-requires Inv-loop μ-loop
+lines-end-requires c κs = search needs
 
 loop-holds : tie.Need-loop-holds Inv-loop μ-loop
 loop-holds c = best-of-none _ _
@@ -34,7 +37,8 @@ loop-again c =
 best-on-path-requires : tie.Need-best-on-path-requires Inv-loop μ-loop
 best-on-path-requires c κs =
     let in-loop = c .before .before in
-    ((omega arith, in-loop .before .before .pre), in-loop .before .loop .inv .best-is)
+    let start = in-loop .before .before in
+    ((omega arith, start .before .pre, start .lines-end .ensures .closed-from), in-loop .before .loop .inv .best-is)
 
 add-line-2 : tie.Need-add-line-2 Inv-loop μ-loop
 add-line-2 c = search needs
@@ -46,7 +50,7 @@ loop-again-2 : tie.Need-loop-again-2 Inv-loop μ-loop
 loop-again-2 c = best-of-more (c .before .before .before .before .loop .inv) (omega arith) (c .best-on-path .ensures)
 
 returns : tie.Need-returns Inv-loop μ-loop
-returns c = best-of-all (c .before .loop .inv) (omega arith)
+returns c = best-of-all (c .before .loop .inv) (c .before .before .lines-end .ensures .closed-from) (c .loop-test .left)
 
 pub best-candidate-spec : {M : Type 1} → statement M
 best-candidate-spec =
@@ -54,6 +58,7 @@ best-candidate-spec =
     (tie.spec
     Inv-loop
     μ-loop
+    lines-end-requires
     loop-holds
     is-closed-requires
     add-line

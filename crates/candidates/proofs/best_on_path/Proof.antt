@@ -13,10 +13,10 @@ use Rattle.candidates.proofs.best_on_path.Statement.{statement}
 use Rattle.candidates.proofs.best_on_path.Tie as tie
 
 abbrev Inv-loop : tie.InvT-loop
-Inv-loop rows line period count best₀ step₀ offset₀ level₀ best step offset level = Reached (path-at rows) (period .0) line level step offset (spot-of best)
+Inv-loop rows end line period count best₀ step₀ offset₀ level₀ best step offset level = Reached (path-at rows) (period .0) line level step offset (spot-of best)
 
 abbrev μ-loop : tie.MeasureT-loop
-μ-loop rows line period count best₀ step₀ offset₀ level₀ best step offset level = count - level
+μ-loop rows end line period count best₀ step₀ offset₀ level₀ best step offset level = count - level
 
 -- in the loop, the path has a row at the present level, and the path is in range
 row-there : (c : tie.In-loop Inv-loop μ-loop) → c .before .loop .level < length (path-at (now (c .before .before .before .args .rows)) (c .before .before .before .args .line))
@@ -31,7 +31,7 @@ loop-holds c = at-root _ _ _ (c .before .pre .1)
 better-requires : tie.Need-better-requires Inv-loop μ-loop
 better-requires c κs =
     let start = c .before .before .before in
-    ((start .pre .0 .0, start .pre .0 .1, row-there c), c .before .loop .inv)
+    ((start .pre .0 .0, start .pre .0 .1, row-there c, start .pre .0 .2), c .before .loop .inv)
 
 edge-requires : tie.Need-edge-requires Inv-loop μ-loop
 edge-requires c κs = let in-loop = c .before in omega (arith, row-there in-loop, path-length-at-most-11 (now (in-loop .before .before .before .args .rows)) (in-loop .before .before .before .args .line))

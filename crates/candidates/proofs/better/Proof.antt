@@ -44,6 +44,7 @@ spot-at-requires c κs =
     let start = dividing .before .before .before .before in (
       record {
         is-legal = start .pre .0 .1;
+        lines = start .pre .0 .3;
         line-below = start .pre .0 .0;
         on-path = start .pre .0 .2;
         unseen = sym (after-seen .seen-earlier .ensures) ∙ c .if3 .left;

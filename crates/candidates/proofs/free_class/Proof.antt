@@ -15,16 +15,16 @@ use Rattle.candidates.proofs.free_class.Statement.{statement}
 use Rattle.candidates.proofs.free_class.Tie as tie
 
 abbrev Inv-loop : tie.InvT-loop
-Inv-loop rows line level d present w class₀ e₀ class e = EdgesOfClass present d class₀ class e
+Inv-loop rows end line level d present w class₀ e₀ class e = EdgesOfClass present d class₀ class e
 
 abbrev μ-loop : tie.MeasureT-loop
-μ-loop rows line level d present w class₀ e₀ class e = w - e
+μ-loop rows end line level d present w class₀ e₀ class e = w - e
 
 abbrev Inv-classes : tie.InvT-classes
-Inv-classes rows line level d present w class₀ class = Classes rows line level d class
+Inv-classes rows end line level d present w class₀ class = Classes rows line level d class
 
 abbrev μ-classes : tie.MeasureT-classes
-μ-classes rows line level d present w class₀ class = d - class
+μ-classes rows end line level d present w class₀ class = d - class
 
 mark-present-requires : tie.Need-mark-present-requires Inv-loop μ-loop Inv-classes μ-classes
 mark-present-requires c κs = search needs

@@ -11,10 +11,10 @@ use Rattle.candidates.proofs.edges.mark_present.Statement.{statement}
 use Rattle.candidates.proofs.edges.mark_present.Tie as tie
 
 abbrev Inv-loop : tie.InvT-loop
-Inv-loop rows line level marks₀ other₀ marks other = Marking rows line level marks other
+Inv-loop rows end line level marks₀ other₀ marks other = Marking rows line level marks other
 
 abbrev μ-loop : tie.MeasureT-loop
-μ-loop rows line level marks₀ other₀ marks other = 64 - other
+μ-loop rows end line level marks₀ other₀ marks other = end - other
 
 loop-holds : tie.Need-loop-holds Inv-loop μ-loop
 loop-holds c = rw (c .pre .1) (marking-start (c .pre .0))
@@ -35,7 +35,7 @@ word-in-range c =
     let through = c .before in
     let in-loop = through .before .before in
     let start = in-loop .before .before in
-    omega (arith, edge-small (start .pre .0) (in-loop .before .loop .inv) (omega (arith, in-loop .loop-test .taken)) (through .before .same-node .ensures) (through .if1 .taken) (c .edge .ensures))
+    omega (arith, edge-small (start .pre .0) (in-loop .before .loop .inv) (omega (arith, in-loop .loop-test .taken, start .pre .0 .lines .within)) (through .before .same-node .ensures) (through .if1 .taken) (c .edge .ensures))
 
 cast-taken : tie.Need-cast-taken Inv-loop μ-loop
 cast-taken c = search needs
@@ -69,12 +69,12 @@ loop-again c =
     ⊎-elim
     (λ way.
     rw (way .3)
-    (marking-through (start .pre .0) (in-loop .before .loop .inv) (omega (arith, in-loop .loop-test .taken)) (after-test .same-node .ensures) (way .0 .taken) (way .1 .ensures)))
-    (λ way. rw (way .1) (marking-apart (start .pre .0) (in-loop .before .loop .inv) (omega (arith, in-loop .loop-test .taken)) (after-test .same-node .ensures) (way .0 .left)))
+    (marking-through (start .pre .0) (in-loop .before .loop .inv) (omega (arith, in-loop .loop-test .taken, start .pre .0 .lines .within)) (after-test .same-node .ensures) (way .0 .taken) (way .1 .ensures)))
+    (λ way. rw (way .1) (marking-apart (start .pre .0) (in-loop .before .loop .inv) (omega (arith, in-loop .loop-test .taken, start .pre .0 .lines .within)) (after-test .same-node .ensures) (way .0 .left)))
     (c .if1 .came)
 
 returns : tie.Need-returns Inv-loop μ-loop
-returns c = marking-all (c .before .loop .inv) (c .loop-test .left)
+returns c = marking-all (c .before .before .pre .0) (c .before .loop .inv) (c .loop-test .left)
 
 pub mark-present-spec : {M : Type 1} → statement M
 mark-present-spec =
