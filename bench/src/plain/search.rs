@@ -3,9 +3,10 @@
 use super::paths::{is_closed, length, same_node};
 use super::Plan;
 
-/// The node at a level of a line's path, with its offset and its step.
+/// The node at a level of a line's path, with its offset and its step. The lines from `end` on are closed.
 #[derive(Clone, Copy)]
 pub struct Node {
+    pub end: usize,
     pub line: usize,
     pub level: usize,
     pub offset: u16,
@@ -32,7 +33,7 @@ fn gcd(a: u16, b: u16) -> u16 {
 fn present_edges(plan: &Plan, node: Node) -> [u64; 64] {
     let path = &plan[node.line];
     let mut marks = [0; 64];
-    for other in &plan[node.line..] {
+    for other in &plan[node.line..node.end] {
         if same_node(path, other, node.level) {
             let taken = usize::from(other[node.level][1]);
             marks[taken / 64] |= 1 << (taken % 64);
@@ -92,10 +93,17 @@ fn better(plan: &Plan, node: Node, period: u16, best: Option<Spot>) -> Option<Sp
     spot_at(plan, node, period).or(best)
 }
 
-fn best_on_path(plan: &Plan, line: usize, period: u16, earlier: Option<Spot>) -> Option<Spot> {
+fn best_on_path(
+    plan: &Plan,
+    end: usize,
+    line: usize,
+    period: u16,
+    earlier: Option<Spot>,
+) -> Option<Spot> {
     let path = &plan[line];
     let mut best = earlier;
     let mut node = Node {
+        end,
         line,
         level: 0,
         offset: 0,
@@ -110,8 +118,18 @@ fn best_on_path(plan: &Plan, line: usize, period: u16, earlier: Option<Spot>) ->
     best
 }
 
+/// One more than the largest number of an open line, 0 in the empty plan.
+fn lines_end(plan: &Plan) -> usize {
+    plan.iter()
+        .rposition(|path| !is_closed(path))
+        .map_or(0, |last| last + 1)
+}
+
 pub fn best_candidate(plan: &Plan, period: u16) -> Option<Spot> {
-    (0..plan.len())
+    let end = lines_end(plan);
+    (0..end)
         .filter(|&line| !is_closed(&plan[line]))
-        .fold(None, |best, line| best_on_path(plan, line, period, best))
+        .fold(None, |best, line| {
+            best_on_path(plan, end, line, period, best)
+        })
 }
