@@ -23,7 +23,7 @@ use Rattle.plan.specs.Ask.{owner-answer}
 use Rattle.plan.specs.Meets.{empty-plan, plan-unless, plan-after, Meets}
 use Rattle.plan.proofs.Changes.{carried-meets}
 use Rattle.history.specs.Ran.{handed-on, Ran, Demand3OfCalls, OwnerOfCalls}
-use Rattle.history.specs.Replay.{call-at, first-calls, answer-number, answer-numbers, Turned, RanFirst, Replays, ReplaysAndOwns}
+use Rattle.history.specs.Replay.{call-at, first-calls, answer-number, answer-numbers, CallRan, RanFirst, Replays, ReplaysAndOwns}
 use Rattle.history.proofs.Demand3OfCalls.{returned-is-handed-on, demand-3-of-calls, owner-of-calls}
 
 -- One call more
@@ -65,22 +65,22 @@ module _ (numbers before : List ℕ) where
   no-call-run = record { entries = []; calls-are = refl; answers-are = refl; ran = refl }
 
   pub one-more-run : (after : List ℕ) (i : ℕ) (plan : Plan) (number : ℕ) (next : Plan) →
-      RanFirst numbers before after i plan → i < length before → Turned (call-at numbers i) plan number next →
+      RanFirst numbers before after i plan → i < length before → CallRan (call-at numbers i) plan number next →
       RanFirst numbers before (set after i number) (suc i) next
   unfolding first-calls
-  one-more-run after i plan number next so-far below turned =
+  one-more-run after i plan number next so-far below call-ran =
       let xs = so-far .entries in
-      let x : Entry = record { call = call-at numbers i; answer = turned .answer } in
+      let x : Entry = record { call = call-at numbers i; answer = call-ran .answer } in
       let at-seam = one-answer-a-call xs ∙ ap length (so-far .calls-are) ∙ first-calls-length numbers i in
       record {
         entries = xs ++ (x ∷ []);
         calls-are = calls-of-more x xs ∙ ap (λ (cs : List Call). cs ++ (call-at numbers i ∷ [])) (so-far .calls-are);
         answers-are =
-            rw (so-far .answers-are, drop-cons before i 0 below, turned .number-is)
-            (set-at (answer-numbers xs) (getD before i 0) (drop (suc i) before) (answer-number (turned .answer)) i at-seam
-            ∙ sym (append-assoc (answer-numbers xs) (answer-number (turned .answer) ∷ []) (drop (suc i) before))
+            rw (so-far .answers-are, drop-cons before i 0 below, call-ran .number-is)
+            (set-at (answer-numbers xs) (getD before i 0) (drop (suc i) before) (answer-number (call-ran .answer)) i at-seam
+            ∙ sym (append-assoc (answer-numbers xs) (answer-number (call-ran .answer) ∷ []) (drop (suc i) before))
             ∙ ap (λ (ns : List ℕ). ns ++ drop (suc i) before) (sym (answer-numbers-more x xs)));
-        ran = ran-more x xs empty-plan plan next (so-far .ran) (turned .meets);
+        ran = ran-more x xs empty-plan plan next (so-far .ran) (call-ran .meets);
       }
 
 -- What the loop of `replay` keeps: i calls are run.
@@ -107,15 +107,15 @@ module _ (numbers before : List ℕ) (count : ℕ) where
       }
 
   module _ (after : List ℕ) (plan : Plan) (i : ℕ) (so-far : Running numbers before count after plan i) where
-    pub running-more : (number : ℕ) (next : Plan) → i < count → Turned (call-at numbers i) plan number next → Running numbers before count (set after i number) next (i + 1)
-    running-more number next below turned =
+    pub running-more : (number : ℕ) (next : Plan) → i < count → CallRan (call-at numbers i) plan number next → Running numbers before count (set after i number) next (i + 1)
+    running-more number next below call-ran =
         record {
           count-is = so-far .count-is;
           whole = so-far .whole;
           room = so-far .room;
           at-most = omega arith;
           same-length = length-set after i number ∙ so-far .same-length;
-          first = rw (add-one i) (one-more-run numbers before after i plan number next (so-far .first) (omega arith) turned);
+          first = rw (add-one i) (one-more-run numbers before after i plan number next (so-far .first) (omega arith) call-ran);
         }
 
     pub all-replayed : count ≤ i → Replays numbers before after count plan

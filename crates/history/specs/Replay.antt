@@ -38,7 +38,7 @@ answer-numbers [] = []
 answer-numbers (x ∷ xs) = answer-number (x .answer) ∷ answer-numbers xs
 
 -- a call on a plan gave this number and this plan, as the call's contract allows
-pub record Turned (c : Call) (plan : Plan) (number : ℕ) (after : Plan) : Type 0 where
+pub record CallRan (c : Call) (plan : Plan) (number : ℕ) (after : Plan) : Type 0 where
   pub answer : Answer
   pub number-is : number ≡ answer-number answer
   pub meets : Meets c plan answer after

@@ -2,14 +2,14 @@
 ghost use mathlib.Core.Path.{_≡_};
 ghost use Rattle.tree.specs.Calls.{open-line, close-line};
 ghost use Rattle.lines.specs.Answers.{open-answer, close-answer};
-ghost use Rattle.history.specs.Replay.{call-of, answer-number, Turned, Replays, ReplaysAndOwns};
+ghost use Rattle.history.specs.Replay.{call-of, answer-number, CallRan, Replays, ReplaysAndOwns};
 use lines::CloseAnswer;
 use lines::OpenAnswer;
 use plan::ask::OwnerAnswer;
 use tree::Plan;
 
 // One call's answer as a number, and the plan that it returned.
-pub struct Turn {
+pub struct CallResult {
     pub answer: u64,
     pub plan: Plan,
 }
@@ -38,33 +38,33 @@ fn close_number(answer: CloseAnswer) -> u64
     }
 }
 
-fn run_open(plan: Plan, line: u64, period: u64) -> Turn
-    ensures { λ r. ⌜ Turned (open-line line period) plan (r .answer) (r .plan) ⌝ }
+fn run_open(plan: Plan, line: u64, period: u64) -> CallResult
+    ensures { λ r. ⌜ CallRan (open-line line period) plan (r .answer) (r .plan) ⌝ }
 {
     let opening = plan::change::open(plan, line, tree::period_asked(period));
     let answer = opening.answer;
     let booked = opening.plan;
-    Turn {
+    CallResult {
         answer: open_number(answer),
         plan: booked,
     }
 }
 
-fn run_close(plan: Plan, line: u64) -> Turn
-    ensures { λ r. ⌜ Turned (close-line line) plan (r .answer) (r .plan) ⌝ }
+fn run_close(plan: Plan, line: u64) -> CallResult
+    ensures { λ r. ⌜ CallRan (close-line line) plan (r .answer) (r .plan) ⌝ }
 {
     let closing = plan::change::close(plan, line);
     let answer = closing.answer;
     let closed = closing.plan;
-    Turn {
+    CallResult {
         answer: close_number(answer),
         plan: closed,
     }
 }
 
 // One call of the list.
-fn run_call(plan: Plan, kind: u64, line: u64, period: u64) -> Turn
-    ensures { λ r. ⌜ Turned (call-of kind line period) plan (r .answer) (r .plan) ⌝ }
+fn run_call(plan: Plan, kind: u64, line: u64, period: u64) -> CallResult
+    ensures { λ r. ⌜ CallRan (call-of kind line period) plan (r .answer) (r .plan) ⌝ }
 {
     if kind == 0 {
         return run_open(plan, line, period);
@@ -84,9 +84,9 @@ pub fn replay(calls: &[u64], answers: &mut [u64]) -> Replayed
     let mut i = 0;
     while i < count {
         let at = 3 * i;
-        let turn = run_call(plan, calls[at], calls[at + 1], calls[at + 2]);
-        answers[i] = turn.answer;
-        plan = turn.plan;
+        let gave = run_call(plan, calls[at], calls[at + 1], calls[at + 2]);
+        answers[i] = gave.answer;
+        plan = gave.plan;
         i += 1;
     }
     Replayed { count, plan }

@@ -120,7 +120,7 @@ unfoldable pub book-into : ℕ → ℕ → Tree → Option Place → Tree
 book-into L p t none = t
 book-into L p t (some a) = book-by-digits L p (class-at p t a) 1 (a .level) (a .offset) t
 
--- (Opening a line, 1, 2) The opened tree: the empty plan gets a root of weight p with the line under edge 0, any other the booking.
+-- (Opening a line, 1, 6, 7) The opened tree: the empty plan gets a root of weight p with the line under edge 0, any other the booking.
 unfoldable pub opened : ℕ → ℕ → Tree → Tree
 opened L p t = if present t then book-into L p t (chosen p t) else one-edge p (line L)
 

@@ -30,7 +30,7 @@ period-out-of-range p = eqb p 0 || ltb 4095 p
 unfoldable pub no-room : ℕ → Tree → Bool
 no-room p t = present t && not (found (chosen p t))
 
--- (The lists of demand 3, 17) The checks of an open before 5, for a line that is open or not.
+-- (Refusals, 3; The lists of demand 3, 17) The checks of an open before 5, for a line that is open or not.
 unfoldable pub earlier-checks : ℕ → ℕ → Bool → List Check
 earlier-checks L p line-open =
     refuse 1 (line-above-63 L) ∷ refuse 2 (period-out-of-range p) ∷ refuse 3 line-open ∷ []
@@ -39,6 +39,6 @@ earlier-checks L p line-open =
 unfoldable pub open-refusal : ℕ → ℕ → Tree → Option ℕ
 open-refusal L p t = first-refusal (earlier-checks L p (is-open L t) ++ (refuse 5 (no-room p t) ∷ []))
 
--- (Refusals, sequence) Close, show, turns: 1, 4.
+-- (Refusals, 4, sequence) Close, show, turns: 1, 4.
 unfoldable pub line-refusal : ℕ → Tree → Option ℕ
 line-refusal L t = first-refusal (refuse 1 (line-above-63 L) ∷ refuse 4 (not (is-open L t)) ∷ [])

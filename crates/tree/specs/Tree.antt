@@ -61,7 +61,7 @@ period-of L t = product (path-of L t)
 unfoldable pub start-of : ℕ → Tree → ℕ
 start-of L t = sum (path-of L t)
 
--- (The tree, 8) A node is named by its level and its offset. The offset's digits in the weights are the edges on the way down to it.
+-- (The tree, 8, 11) A node is named by its level and its offset. The offset's digits in the weights are the edges on the way down to it.
 pub record Place : Type 0 where
   pub level : ℕ
   pub offset : ℕ

@@ -1,4 +1,4 @@
--- `history::replay` meets its contract: each turn runs one call more, and demand 3 holds of every list that was run.
+-- `history::replay` meets its contract: each pass of the loop runs one call more, and demand 3 holds of every list that was run.
 -- Assumes nothing.
 use Prim.Native.Nat.{_-_}
 use native.Mathlib.Omega.{arith}
