@@ -8,7 +8,7 @@ use paths::edge;
 use paths::same_node;
 
 // The edge is marked.
-pub fn is_marked(marks: &[u64; 64], edge: usize) -> bool
+pub(crate) fn is_marked(marks: &[u64; 64], edge: usize) -> bool
     requires { ⌜ edge < 4096 ⌝ }
     ensures { λ r. ⌜ r ≡ marked (now (marks .entry)) edge ⌝ }
 {
@@ -17,7 +17,7 @@ pub fn is_marked(marks: &[u64; 64], edge: usize) -> bool
 }
 
 // Marks the edges of a node that lines take: one pass over the lines, from the first whose path goes through the node up to the last open one.
-pub fn mark_present(
+pub(crate) fn mark_present(
     rows: &[u16; 1408],
     end: usize,
     line: usize,

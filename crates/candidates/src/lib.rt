@@ -1,4 +1,4 @@
-// The search for the chosen candidate, over the lent array of a legal plan record.
+// The search for the chosen candidate, over the lent array of a legal plan record. It looks at no line from `end` on, since these are closed (`lines_end`).
 ghost use mathlib.Core.Path.{_≡_};
 ghost use mathlib.Core.Bool.{true};
 ghost use Prim.Native.Nat.{_+_, _*_, _<_, _≤_};
@@ -63,6 +63,7 @@ pub fn gcd(a: u16, b: u16) -> u16
 }
 
 // The smallest class modulo d none of whose edges is present, of a node that no earlier line goes through.
+// The present edges are marked once; each that is met leaves to the next class.
 pub fn free_class(rows: &[u16; 1408], end: usize, line: usize, level: usize, d: u16) -> Class
     requires { ⌜ FirstThrough (now rows) end line level ⌝ }
     ensures { λ r. ⌜ class-of r ≡ class-on-path (path-at (now (rows .entry))) (path-at (now (rows .entry)) line) level d ⌝ }
@@ -193,7 +194,7 @@ fn best_on_path(
     best
 }
 
-// One more than the largest number of an open line, 0 in the empty plan. The search looks at no line from there on.
+// One more than the largest number of an open line, 0 in the empty plan.
 fn lines_end(rows: &[u16; 1408]) -> usize
     ensures { λ r. ⌜ EndOfLines (now (rows .entry)) r ⌝ }
 {
