@@ -4,15 +4,14 @@ use Prim.Native.Nat.{ℕ, _+_, _*_, _/_, _%_, _<_, _≤_}
 use native.Mathlib.Omega.{arith}
 use native.Mathlib.Nat.{mod-eq-of-lt, mod-add-div, add-mul-mod-self-left, lt-of-mul-lt-mul-left, mul-zero, mul-add, mul-one}
 use mathlib.Core.Path.{_≡_, refl, sym, _∙_, ap}
-use mathlib.Core.Bool.{Bool, true, false, not, _&&_, true≢false, and-eq-true-iff, and-false}
+use mathlib.Core.Bool.{Bool, true, false, not, _&&_, true≢false, and-eq-true-iff}
 use mathlib.Core.List.{List}
 use mathlib.Core.Option.{none, some}
 use lib.Dec.{eqb}
-use lib.ListN.{length}
 use borrow.Author.Count.{below-none, below-more}
 use borrow.Author.Tests.{eqb-true, eq-eqb, ne-eqb}
 use Rattle.tree.specs.Search.{some-below}
-use Rattle.tree.specs.Record.{row-at, path-at}
+use Rattle.tree.specs.Record.{path-at}
 use Rattle.paths.specs.Rules.{row-of, same-node, line-under, class-taken, class-on-path}
 use Rattle.tree.proofs.Searching.{some-below-true, some-below-at, some-below-none}
 use Rattle.paths.proofs.AllBelow.{so-far-more}

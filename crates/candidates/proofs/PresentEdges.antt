@@ -4,26 +4,26 @@ use Prim.Native.Nat.{ℕ, _+_, _*_, _/_, _%_, _^_, _<_, _≤_}
 use native.Mathlib.Omega.{arith}
 use native.Mathlib.Nat.{eq-or-lt-of-le}
 use mathlib.Core.Path.{_≡_, refl, sym, _∙_, ap}
-use mathlib.Core.Logic.{_⊎_, inl, inr}
-use mathlib.Core.Bool.{Bool, true, false, _&&_, _||_, true≢false, or-false}
+use mathlib.Core.Logic.{inl, inr}
+use mathlib.Core.Bool.{Bool, true, false, _&&_, true≢false, or-false}
 use mathlib.Core.List.{List}
 use lib.Bits.{bitOr}
 use lib.Dec.{eqb, ltb}
 use lib.ListN.{length, getD, set, replicate, length-set}
 use borrow.Author.Tests.{ltb-true, ltb-false}
 use Rattle.tree.specs.declared.Row.{Row}
-use Rattle.tree.specs.Search.{found, smallest, some-below}
-use Rattle.tree.specs.Record.{row-at, path-at, legal}
+use Rattle.tree.specs.Search.{some-below}
+use Rattle.tree.specs.Record.{row-at, path-at}
 use Rattle.paths.specs.Rules.{row-of, same-node, line-under}
 use Rattle.tree.proofs.Searching.{some-below-false, some-below-none}
 use Rattle.paths.proofs.NoneBelow.{some-below-more, some-below-up-to}
 use Rattle.paths.proofs.RowLaws.{no-rows-empty}
 use Rattle.paths.proofs.PathNumbers.{edge-below-weight, weight-small}
 use Rattle.paths.proofs.PathRows.{row-in-path}
-use Rattle.paths.proofs.SameNode.{same-node-none, same-node-comm, same-node-goes-on, edge-read}
+use Rattle.paths.proofs.SameNode.{same-node-none, same-node-comm, same-node-goes-on}
 use Rattle.candidates.specs.Answers.{seen-earlier}
 use Rattle.candidates.specs.Edges.{marked, edge-present, MarksPresent, FirstThrough}
-use Rattle.candidates.proofs.SeenEarlier.{OneNode, lines-through-one}
+use Rattle.candidates.proofs.SeenEarlier.{lines-through-one}
 use Rattle.candidates.proofs.Marks.{none-marked, bit-of-edge, marked-more}
 
 -- The lines through the node

@@ -1,4 +1,4 @@
--- Running a list of numbers call by call (specs/Replay.antt): no call, one more, and a period too large for a u16.
+-- Running a list of numbers call by call (specs/Replay.antt): no call, one more, and a period above 4,095.
 -- Assumes nothing.
 use Prim.Native.Nat.{ℕ, zero, suc, _+_, _*_, _/_, _<_, _≤_, min}
 use native.Mathlib.Nat.{min-le-left, min-le-right}

@@ -120,7 +120,7 @@ module _ {rows : List ℕ} {a b l k : ℕ} (way : SameWay rows a b l k) (below :
         way .same ∙ rw (none-left, path-rest-row rows a k below read some-weight, path-rest-row rows b k below read-second second-weight)
 
     -- above the level, the edges in row k decide
-    pub edges-decide : k < l → same-node l (path-at rows a) (path-at rows b)
+    edges-decide : k < l → same-node l (path-at rows a) (path-at rows b)
         ≡ (eqb (row-at rows a k .edge) (row-at rows b k .edge) && same-node (l - (k + 1)) (path-rest rows a (k + 1)) (path-rest rows b (k + 1)))
     unfolding same-node
     edges-decide above =

@@ -1,6 +1,5 @@
 -- `candidates::lines_end` meets its contract. The invariant: the lines from the present end on are closed (`ClosedFrom`). The measure is that end.
 -- Assumes nothing.
-use native.Mathlib.Omega.{arith}
 use borrow.Author.Needs.{needs}
 use borrow.Author.Tests.{not-true, not-false}
 use Rattle.candidates.specs.Edges.{ClosedFrom}

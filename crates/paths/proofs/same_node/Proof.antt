@@ -6,7 +6,6 @@ use native.Mathlib.Omega.{arith}
 use native.Mathlib.Nat.{le-refl}
 use mathlib.Core.Path.{sym}
 use borrow.Author.Needs.{needs}
-use denote.Ref.{now}
 use Rattle.paths.proofs.SameNode.{SameWay, same-way-start, level-reached, first-ends-above, second-ends-above, first-path-ended, second-path-ended, both-go-on, ways-differ, same-way-more}
 use Rattle.paths.proofs.same_node.Statement.{statement}
 use Rattle.paths.proofs.same_node.Tie as tie
