@@ -1,4 +1,4 @@
--- The invariants of `free_class`'s loops: every class passed has a present edge, and none of the edges passed of the present class is marked.
+-- The invariants of `free_class`'s loops: every class passed has a present edge, and of the class at hand none of the edges passed is marked.
 -- Assumes nothing.
 use Prim.Native.Nat.{ℕ, _+_, _*_, _/_, _%_, _<_, _≤_}
 use native.Mathlib.Omega.{arith}
@@ -27,19 +27,19 @@ is-free rows L l d i = not (class-taken (path-at rows) (path-at rows L) l d i)
 abbrev pub Classes : List ℕ → ℕ → ℕ → ℕ → ℕ → Type 0
 Classes rows L l d i = NoneBelow d (is-free rows L l d) i
 
--- of class i, which is the present one still, the edges i + d·j below e were searched
+-- of class i, which is still the one at hand, the edges i + d·j below e were searched
 pub record EdgesOfClass (marks : List ℕ) (d i₀ i e : ℕ) : Type 0 where
-  pub present : i ≡ i₀
+  pub at-hand : i ≡ i₀
   pub count : ℕ
   pub edge-is : e ≡ i + d * count
   pub unmarked : (j : ℕ) → j < count → marked marks (i + d * j) ≡ false
 
 pub edges-start : (marks : List ℕ) (d i : ℕ) → EdgesOfClass marks d i i i
-edges-start marks d i = record { present = refl; count = 0; edge-is = omega (arith, mul-zero d); unmarked = below-none (λ (j : ℕ). marked marks (i + d * j) ≡ false) }
+edges-start marks d i = record { at-hand = refl; count = 0; edge-is = omega (arith, mul-zero d); unmarked = below-none (λ (j : ℕ). marked marks (i + d * j) ≡ false) }
 
 pub edges-more : {marks : List ℕ} {d i₀ i e : ℕ} → EdgesOfClass marks d i₀ i e → {b : Bool} → b ≡ marked marks e → b ≡ false → EdgesOfClass marks d i₀ i (e + d)
 edges-more {marks} {d} {i₀} {i} {e} edges answered absent = record {
-  present = edges .present;
+  at-hand = edges .at-hand;
   count = edges .count + 1;
   edge-is = omega (arith, edges .edge-is, mul-add d (edges .count) 1, mul-one d);
   unmarked = below-more (λ (j : ℕ). marked marks (i + d * j) ≡ false) (edges .count) (edges .unmarked) (rw (← edges .edge-is) (sym answered ∙ absent));
@@ -59,10 +59,10 @@ module _ (rows : List ℕ) (L l : ℕ) {marks : List ℕ} (marks-present : Marks
 
   module _ {d i₀ i e : ℕ} (edges : EdgesOfClass marks d i₀ i e) (classes : Classes rows L l d i₀) (in-range : i₀ < d) where
     class-below : i < d
-    class-below = omega (arith, edges .present)
+    class-below = omega (arith, edges .at-hand)
 
     searched : Classes rows L l d i
-    searched = rw (← edges .present) at classes
+    searched = rw (← edges .at-hand) at classes
 
     edge-class : e % d ≡ i
     edge-class = rw (edges .edge-is, add-mul-mod-self-left i d (edges .count)) (mod-eq-of-lt class-below)
@@ -71,7 +71,7 @@ module _ (rows : List ℕ) (L l : ℕ) {marks : List ℕ} (marks-present : Marks
     pub class-passed : {b : Bool} → b ≡ marked marks e → b ≡ true → Classes rows L l d (i + 1)
     class-passed answered mark = so-far-more searched class-below (ap not (rw edge-class at (marked-takes d e (sym answered ∙ mark))))
 
-    -- w was read as the node's weight, and all edges of the class were searched
+    -- all edges of the class below the weight were searched
     module _ {end : ℕ} (first : FirstThrough rows end L l) (past : row-of l (path-at rows L) .weight ≤ e) where
       edge-unmarked : (k : ℕ) → k < row-of l (path-at rows L) .weight → k % d ≡ i → marked marks k ≡ false
       edge-unmarked k below class-is =
@@ -89,8 +89,8 @@ module _ (rows : List ℕ) (L l : ℕ) {marks : List ℕ} (marks-present : Marks
           go : (b : Bool) → same-node l (path-at rows L) (path-at rows M) ≡ b → (b && eqb (k % d) i) ≡ false
           go false apart = refl
           go true through =
-              let present = some-below-at 64 (takes-edge rows L l k) M below (rw through (eq-eqb k k refl)) in
-              ne-eqb (k % d) i (λ same. true≢false (sym present ∙ sym (marks-present .each k) ∙ edge-unmarked k (edge-of-node first below through) same))
+              let is-present = some-below-at 64 (takes-edge rows L l k) M below (rw through (eq-eqb k k refl)) in
+              ne-eqb (k % d) i (λ same. true≢false (sym is-present ∙ sym (marks-present .each k) ∙ edge-unmarked k (edge-of-node first below through) same))
 
       pub class-free : class-on-path (path-at rows) (path-at rows L) l d ≡ some i
       unfolding class-on-path class-taken

@@ -1,4 +1,4 @@
--- `candidates::free_class` meets its contract. The outer invariant: every class passed has a present edge (`Classes`). The inner one: no edge passed of the present class is marked (`EdgesOfClass`).
+-- `candidates::free_class` meets its contract. The outer invariant: every class passed has a present edge (`Classes`). The inner one: of the class at hand no edge passed is marked (`EdgesOfClass`).
 -- The measures are how many classes are left, and how far the edge is from the weight.
 -- Assumes nothing.
 use Prim.Native.Nat.{_-_}
