@@ -5,13 +5,18 @@ use mathlib.Core.Path.{_≡_}
 use mathlib.Core.Bool.{true}
 use mathlib.Core.List.{List}
 use mathlib.Core.Option.{Option, none, some}
+use Rattle.tree.specs.declared.Plan.{Plan}
 use Rattle.tree.specs.Tree.{Tree}
 use Rattle.tree.specs.Calls.{Call, Answer, refusal, carried-out, answer}
 use Rattle.tree.specs.Record.{legal, treeOf, recordOf}
 
--- the tree of the record with these numbers
+-- the plan whose record has these numbers
+abbrev pub plan-of : List ℕ → Plan
+plan-of rows = record { rows = rows }
+
+-- its tree
 unfoldable pub tree-of : List ℕ → Tree
-tree-of rows = treeOf (record { rows = rows })
+tree-of rows = treeOf (plan-of rows)
 
 unfoldable pub rows-unless : Option ℕ → List ℕ → List ℕ → List ℕ
 rows-unless (some n) before after = before
