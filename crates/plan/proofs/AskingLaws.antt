@@ -3,15 +3,14 @@
 use Prim.Native.Nat.{ℕ, _+_, _/_, _<_, _≤_}
 use mathlib.Core.Path.{_≡_, sym, ap}
 use mathlib.Core.Bool.{true, false}
-use mathlib.Core.List.{[]}
+use mathlib.Core.List.{List, []}
 use mathlib.Core.Logic.{⊎-elim}
-use Rattle.tree.specs.declared.Plan.{Plan}
 use Rattle.tree.specs.declared.Period.{Period}
 use Rattle.tree.specs.declared.Start.{Start}
 use Rattle.tree.specs.Tree.{Tree, product, sum}
 use Rattle.tree.specs.Asking.{rows-11}
 use Rattle.tree.specs.Calls.{gives, refuses, show-outcome, turns-outcome}
-use Rattle.tree.specs.Record.{path-at, no-rows, legal, treeOf}
+use Rattle.tree.specs.Record.{path-at, no-rows, legal}
 use Rattle.paths.specs.declared.Found.the-variants.{At, Nothing}
 use Rattle.paths.proofs.PathLength.{lookup-nothing, lookup-at}
 use Rattle.paths.proofs.PathRest.{path-rest-start, path-rest-product}
@@ -27,47 +26,42 @@ shown-refused : (L n : ℕ) (t : Tree) → show-outcome L t ≡ refuses n → Sh
 unfolding show-answer rows-beside
 shown-refused L n t h = record { answer-is = sym h; rows-are = sym (ap rows-beside h) }
 
-module _ (plan : Plan) where
+module _ (rows : List ℕ) where
   -- a line above 63
 
-  pub shown-above : (L : ℕ) → 63 < L → ShownAs L (treeOf plan) (Refused 1) (rows-11 [])
-  unfolding tree-of
-  shown-above L above = shown-refused L 1 (treeOf plan) (shown-refused-1 (plan .rows) L above)
+  pub shown-above : (L : ℕ) → 63 < L → ShownAs L (tree-of rows) (Refused 1) (rows-11 [])
+  shown-above L above = shown-refused L 1 (tree-of rows) (shown-refused-1 rows L above)
 
-  pub turns-above : (L N : ℕ) → 63 < L → turns-outcome L N (treeOf plan) ≡ refuses 1
-  unfolding tree-of
-  turns-above = turns-refused-1 (plan .rows)
+  pub turns-above : (L N : ℕ) → 63 < L → turns-outcome L N (tree-of rows) ≡ refuses 1
+  turns-above = turns-refused-1 rows
 
   module _ (L : ℕ) (number : L ≤ 63) where
     -- a line that is not open
 
-    pub shown-absent : line-found (plan .rows) L ≡ Nothing → ShownAs L (treeOf plan) (Refused 4) (rows-11 [])
-    unfolding tree-of
-    shown-absent absent = shown-refused L 4 (treeOf plan) (⊎-elim (λ w. shown-refused-4 (plan .rows) (w .0) L number (lookup-nothing (path-at (plan .rows) L) (w .1))) (λ illegal. shown-on-illegal (plan .rows) illegal L number) (absent-or-no-tree (plan .rows) L absent))
+    pub shown-absent : line-found rows L ≡ Nothing → ShownAs L (tree-of rows) (Refused 4) (rows-11 [])
+    shown-absent absent = shown-refused L 4 (tree-of rows) (⊎-elim (λ w. shown-refused-4 rows (w .0) L number (lookup-nothing (path-at rows L) (w .1))) (λ illegal. shown-on-illegal rows illegal L number) (absent-or-no-tree rows L absent))
 
-    pub turns-absent : (N : ℕ) → line-found (plan .rows) L ≡ Nothing → turns-outcome L N (treeOf plan) ≡ refuses 4
-    unfolding tree-of
-    turns-absent N absent = ⊎-elim (λ w. turns-refused-4 (plan .rows) (w .0) L number N (lookup-nothing (path-at (plan .rows) L) (w .1))) (λ illegal. turns-on-illegal (plan .rows) illegal L N number) (absent-or-no-tree (plan .rows) L absent)
+    pub turns-absent : (N : ℕ) → line-found rows L ≡ Nothing → turns-outcome L N (tree-of rows) ≡ refuses 4
+    turns-absent N absent = ⊎-elim (λ w. turns-refused-4 rows (w .0) L number N (lookup-nothing (path-at rows L) (w .1))) (λ illegal. turns-on-illegal rows illegal L N number) (absent-or-no-tree rows L absent)
 
     -- an open line
 
-    module _ (n : ℕ) (there : line-found (plan .rows) L ≡ At n) where
-      pub found-legal : legal (plan .rows) ≡ true
-      found-legal = found-in-tree (plan .rows) L n there .0
+    module _ (n : ℕ) (there : line-found rows L ≡ At n) where
+      pub found-legal : legal rows ≡ true
+      found-legal = found-in-tree rows L n there .0
 
-      has-rows : no-rows (path-at (plan .rows) L) ≡ false
-      has-rows = lookup-at (path-at (plan .rows) L) n (found-in-tree (plan .rows) L n there .1)
+      has-rows : no-rows (path-at rows L) ≡ false
+      has-rows = lookup-at (path-at rows L) n (found-in-tree rows L n there .1)
 
-      pub shown-found : (p : Period) (s : Start) → p .0 ≡ product (path-at (plan .rows) L) → s .0 ≡ sum (path-at (plan .rows) L) → ShownAs L (treeOf plan) (Times p s) (rows-11 (path-at (plan .rows) L))
-      unfolding tree-of show-answer rows-beside
+      pub shown-found : (p : Period) (s : Start) → p .0 ≡ product (path-at rows L) → s .0 ≡ sum (path-at rows L) → ShownAs L (tree-of rows) (Times p s) (rows-11 (path-at rows L))
+      unfolding show-answer rows-beside
       shown-found p s period-is start-is =
-          let outcome = shown-on-record (plan .rows) found-legal L number has-rows in
+          let outcome = shown-on-record rows found-legal L number has-rows in
           record { answer-is = rw (period-is, start-is) (sym outcome); rows-are = sym (ap rows-beside outcome) }
 
-      pub turns-found : (N : ℕ) → turns-outcome L N (treeOf plan) ≡ gives (N / product (path-at (plan .rows) L) + 1)
-      unfolding tree-of
-      turns-found N = turns-on-record (plan .rows) found-legal L number N has-rows
+      pub turns-found : (N : ℕ) → turns-outcome L N (tree-of rows) ≡ gives (N / product (path-at rows L) + 1)
+      turns-found N = turns-on-record rows found-legal L number N has-rows
 
 -- a period is at least 1
-pub period-positive : (plan : Plan) (L : ℕ) → 1 ≤ product (path-at (plan .rows) L)
-period-positive plan L = rw (path-rest-start (plan .rows) L) at (path-rest-product (plan .rows) L 0)
+pub period-positive : (rows : List ℕ) (L : ℕ) → 1 ≤ product (path-at rows L)
+period-positive rows L = rw (path-rest-start rows L) at (path-rest-product rows L 0)

@@ -1,4 +1,5 @@
-// The calls that ask a plan: owner, show and turns. A record that is no tree is answered as the empty plan.
+// The calls that ask a plan: owner, show and turns, each on a record that is lent and with a plan by value. A record that
+// is no tree is answered as the empty plan.
 ghost use mathlib.Core.Path.{_≡_};
 ghost use Rattle.tree.specs.Asking.{owner};
 ghost use Rattle.tree.specs.Calls.{turns-outcome};
@@ -69,41 +70,55 @@ fn refused(number: u8) -> Showing
     }
 }
 
-// Shows a line: its period, its start and its path, or a refusal with 1 or 4.
-pub fn show(plan: Plan, line: u64) -> Showing
-    ensures { λ r. ⌜ ShownAs line (treeOf plan) (r .answer) (r .rows) ⌝ }
+// Shows a line of a record that is lent: its period, its start and its path, or a refusal with 1 or 4.
+pub fn show_rows(rows: &[u16; 1408], line: u64) -> Showing
+    ensures { λ r. ⌜ ShownAs line (tree-of (now (rows .entry))) (r .answer) (r .rows) ⌝ }
 {
     if 63 < line {
         return refused(1);
     }
     let at = line as usize;
-    let found = find_line(&plan.rows, at);
+    let found = find_line(rows, at);
     let Found::At(_) = found else {
         return refused(4);
     };
-    let times = asking::times_of(&plan.rows, at);
+    let times = asking::times_of(rows, at);
     let period = times.period;
     let start = times.start;
-    let rows = asking::rows_of(&plan.rows, at);
+    let path = asking::rows_of(rows, at);
     Showing {
         answer: ShowAnswer::Times(period, start),
-        rows,
+        rows: path,
     }
 }
 
-// Turns of a line in so many rounds, or a refusal with 1 or 4.
-pub fn turns(plan: Plan, line: u64, rounds: u32) -> TurnsAnswer
-    ensures { λ r. ⌜ turns-answer r ≡ turns-outcome line rounds (treeOf plan) ⌝ }
+// The same with a plan by value.
+pub fn show(plan: Plan, line: u64) -> Showing
+    ensures { λ r. ⌜ ShownAs line (treeOf plan) (r .answer) (r .rows) ⌝ }
+{
+    show_rows(&plan.rows, line)
+}
+
+// Turns of a line in so many rounds by a record that is lent, or a refusal with 1 or 4.
+pub fn turns_rows(rows: &[u16; 1408], line: u64, rounds: u32) -> TurnsAnswer
+    ensures { λ r. ⌜ turns-answer r ≡ turns-outcome line rounds (tree-of (now (rows .entry))) ⌝ }
 {
     if 63 < line {
         return TurnsAnswer::Refused(1);
     }
     let at = line as usize;
-    let found = find_line(&plan.rows, at);
+    let found = find_line(rows, at);
     let Found::At(_) = found else {
         return TurnsAnswer::Refused(4);
     };
-    let times = asking::times_of(&plan.rows, at);
+    let times = asking::times_of(rows, at);
     let count = asking::turns_of(times.period, rounds);
     TurnsAnswer::Count(count)
+}
+
+// The same with a plan by value.
+pub fn turns(plan: Plan, line: u64, rounds: u32) -> TurnsAnswer
+    ensures { λ r. ⌜ turns-answer r ≡ turns-outcome line rounds (treeOf plan) ⌝ }
+{
+    turns_rows(&plan.rows, line, rounds)
 }

@@ -1,5 +1,6 @@
 // The walker: the owners of successive rounds, one for each call.
 ghost use Rattle.tree.specs.Record.{treeOf};
+ghost use Rattle.bridge.specs.Rows.{tree-of};
 ghost use Rattle.plan.specs.Walker.{WalkedOn};
 use crate::ask;
 use crate::ask::OwnerAnswer;
@@ -24,9 +25,10 @@ pub struct Walked {
     pub place: WalkerPlace,
 }
 
-// The owner of the next round, and the place moved on. Refused with 9, and the place as found, where either number is 2^64 - 1.
-pub fn walk(plan: Plan, place: WalkerPlace) -> Walked
-    ensures { λ r. ⌜ WalkedOn place (treeOf plan) (r .answer) (r .place) ⌝ }
+// The owner of the next round by a record that is lent, and the place moved on. Refused with 9, and the place as found,
+// where either number is 2^64 - 1.
+pub fn walk_rows(rows: &[u16; 1408], place: WalkerPlace) -> Walked
+    ensures { λ r. ⌜ WalkedOn place (tree-of (now (rows .entry))) (r .answer) (r .place) ⌝ }
 {
     let refused = Walked {
         answer: WalkAnswer::Refused(9),
@@ -40,7 +42,7 @@ pub fn walk(plan: Plan, place: WalkerPlace) -> Walked
     }
     let next = place.next + 1;
     let one_more = place.owned + 1;
-    let owner = ask::owner(plan, place.next);
+    let owner = ask::owner_rows(rows, place.next);
     let OwnerAnswer::Line(line) = owner else {
         let owned = place.owned;
         return Walked {
@@ -53,6 +55,13 @@ pub fn walk(plan: Plan, place: WalkerPlace) -> Walked
         answer: WalkAnswer::Line(line),
         place: WalkerPlace { next, owned },
     }
+}
+
+// The same with a plan by value.
+pub fn walk(plan: Plan, place: WalkerPlace) -> Walked
+    ensures { λ r. ⌜ WalkedOn place (treeOf plan) (r .answer) (r .place) ⌝ }
+{
+    walk_rows(&plan.rows, place)
 }
 
 // The same on a place that is lent.
