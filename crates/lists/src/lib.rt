@@ -1,12 +1,12 @@
 // A list of orders run on a plan (document 01, section Orders): three bytes in and two bytes out for each order.
 ghost use mathlib.Core.Path.{_≡_};
-ghost use mathlib.Core.Bool.{true, _||_};
+ghost use mathlib.Core.Bool.{true, false, _||_};
 ghost use Prim.Native.Nat.{_+_, _<_};
 ghost use lib.ListN.{length, set};
 ghost use mathlib.Core.Option.{none};
 ghost use Rattle.tree.specs.Calls.{open-line, close-line};
-ghost use Rattle.tree.specs.Record.{legal, treeOf};
-ghost use Rattle.bridge.specs.Rows.{CarriedOut, LegalWith};
+ghost use Rattle.tree.specs.Record.{legal};
+ghost use Rattle.bridge.specs.Rows.{plan-of, CarriedOut};
 ghost use Rattle.orders.specs.Order.{order-of};
 ghost use Rattle.lists.specs.Lists.{orders-of, result, start, answer-word, high-byte, low-byte, carried, length-refused, list-refusal};
 ghost use Rattle.lists.specs.Runs.{answer-in, refusal-in, OrderRan, Runnable, OrdersRan, CheckedRan, ListRan};
@@ -168,45 +168,51 @@ fn check_lengths(length: usize, room: usize) -> ListAnswer
     ListAnswer::Done
 }
 
-// The plan to work on: a record that is no tree counts as the empty plan.
-fn working_plan(plan: Plan) -> Plan
-    ensures { λ r. ⌜ LegalWith (r .rows) (treeOf plan) ⌝ }
+// Runs a list that passes its checks on a record that is no tree: on the empty plan, which takes the record's place where an order is carried out.
+fn run_in_empty(rows: &mut [u16; 1408], orders: &[u8], answers: &mut [u8])
+    requires { ⌜ (legal (now rows) ≡ false) × (list-refusal (length (now orders)) (length (now answers)) ≡ none) ⌝ }
+    ensures { λ _. ⌜ CheckedRan (plan-of (now (rows .entry))) (now (orders .entry)) (now (answers .entry)) (plan-of (now (rows .exit))) (now (answers .exit)) ⌝ }
 {
-    if paths::legal(&plan.rows) {
-        return plan;
-    }
-    Plan { rows: [0; 1408] }
-}
-
-// Runs a list that passes its checks.
-fn run_checked(plan: Plan, orders: &[u8], answers: &mut [u8]) -> Plan
-    requires { ⌜ list-refusal (length (now orders)) (length (now answers)) ≡ none ⌝ }
-    ensures { λ r. ⌜ CheckedRan plan (now (orders .entry)) (now (answers .entry)) r (now (answers .exit)) ⌝ }
-{
-    let mut next = working_plan(plan);
-    let any = run_orders(&mut next.rows, orders, answers, orders.len() / 3);
-    paths::whole(&next.rows);
+    let mut fresh = [0; 1408];
+    let any = run_orders(&mut fresh, orders, answers, orders.len() / 3);
+    paths::whole(&fresh);
     if any {
-        return next;
+        *rows = fresh;
     }
-    plan
 }
 
-// Runs a list of orders on a plan. Refused with 7 or 8, the first that applies: then plan and lent bytes are as found.
+// Runs a list that passes its checks: in place where the record is a tree.
+fn run_checked(rows: &mut [u16; 1408], orders: &[u8], answers: &mut [u8])
+    requires { ⌜ list-refusal (length (now orders)) (length (now answers)) ≡ none ⌝ }
+    ensures { λ _. ⌜ CheckedRan (plan-of (now (rows .entry))) (now (orders .entry)) (now (answers .entry)) (plan-of (now (rows .exit))) (now (answers .exit)) ⌝ }
+{
+    paths::whole(rows);
+    if paths::legal(rows) {
+        run_orders(rows, orders, answers, orders.len() / 3);
+        paths::whole(rows);
+        return;
+    }
+    run_in_empty(rows, orders, answers);
+}
+
+// Runs a list of orders on a record that is lent. Refused with 7 or 8, the first that applies: then record and lent bytes are as found.
 // Else each order has its two bytes written, whether it is refused or not, and the lent bytes beyond are as found.
-// The plan is as found where no order was carried out.
+// The record is as found where no order was carried out.
+pub fn run_list_rows(rows: &mut [u16; 1408], orders: &[u8], answers: &mut [u8]) -> ListAnswer
+    ensures { λ r. ⌜ ListRan (plan-of (now (rows .entry))) (now (orders .entry)) (now (answers .entry)) (refusal-in r) (plan-of (now (rows .exit))) (now (answers .exit)) ⌝ }
+{
+    let answer = check_lengths(orders.len(), answers.len());
+    if let ListAnswer::Done = answer {
+        run_checked(rows, orders, answers);
+    }
+    answer
+}
+
+// The same with a plan by value.
 pub fn run_list(plan: Plan, orders: &[u8], answers: &mut [u8]) -> ListResult
     ensures { λ r. ⌜ ListRan plan (now (orders .entry)) (now (answers .entry)) (refusal-in (r .answer)) (r .plan) (now (answers .exit)) ⌝ }
 {
-    let answer = check_lengths(orders.len(), answers.len());
-    match answer {
-        ListAnswer::Done => {
-            let after = run_checked(plan, orders, answers);
-            ListResult {
-                answer,
-                plan: after,
-            }
-        }
-        ListAnswer::Refused(_) => ListResult { answer, plan },
-    }
+    let mut next = plan;
+    let answer = run_list_rows(&mut next.rows, orders, answers);
+    ListResult { answer, plan: next }
 }

@@ -5,11 +5,6 @@ use borrow.Author.Needs.{needs}
 use Rattle.lists.proofs.OrdersInTurn.{Running, running-none, running-more, running-all}
 use Rattle.lists.proofs.run_orders.Statement.{statement}
 use Rattle.lists.proofs.run_orders.Tie as tie
-use Rattle.lists.proofs.run_orders.Reads as reads
-use Rattle.lists.proofs.run_orders.Lts as lts
-use Rattle.lists.proofs.carried_so_far.Reads as carried-so-far-reads
-use Rattle.lists.proofs.run_order.Reads as run-order-reads
-use Rattle.lists.proofs.write_answer.Reads as write-answer-reads
 
 abbrev Inv-loop : tie.InvT-loop
 Inv-loop rows₀ orders answers₀ count any₀ k₀ rows answers any k = Running rows₀ orders answers₀ count rows answers any k
