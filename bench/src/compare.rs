@@ -22,8 +22,8 @@ struct Seen {
 
 impl Seen {
     /// Notes an answer to an open, a close or a list.
-    fn answer(&mut self, number: u64) {
-        self.answers[(number >> 56) as usize] += 1;
+    fn answer(&mut self, number: i64) {
+        self.answers[-number.min(0) as usize] += 1;
     }
 
     /// A damaged copy of a record.
@@ -50,7 +50,7 @@ fn open_lines(rows: &Record) -> usize {
 }
 
 /// One generated open or close by both: the same answer, which is returned, and the same record afterwards.
-fn compare_change(rows: &mut Record, numbers: &mut Numbers) -> u64 {
+fn compare_change(rows: &mut Record, numbers: &mut Numbers) -> i64 {
     let line = match numbers.below(64) {
         0 => numbers.next(),
         _ => numbers.below(66),
@@ -66,7 +66,7 @@ fn compare_change(rows: &mut Record, numbers: &mut Numbers) -> u64 {
     let answer = call(LIBRARY, rows);
     assert_eq!(answer, call(PLAIN, &mut other), "the answers differ");
     assert!(*rows == other, "the records differ");
-    let kept = answer < plain::refused(1) || *rows == before;
+    let kept = 0 <= answer || *rows == before;
     assert!(kept, "a refusal changed the record");
     answer
 }
@@ -76,7 +76,7 @@ fn compare_owner(rows: &Record, numbers: &mut Numbers) -> bool {
     let round = numbers.round();
     let owner = (LIBRARY.owner)(rows, round);
     assert_eq!(owner, (PLAIN.owner)(rows, round), "the owners differ");
-    assert!(owner <= 64);
+    assert!((0..=64).contains(&owner));
     owner < 64
 }
 
@@ -105,7 +105,7 @@ fn compare_calls() {
 }
 
 /// One list by both, with so many bytes lent for its answers: the same answer, record and bytes.
-fn compare_list(rows: &mut Record, list: &[u8], room: usize) -> u64 {
+fn compare_list(rows: &mut Record, list: &[u8], room: usize) -> i64 {
     let before = *rows;
     let mut other = before;
     let lent = vec![0xa5; room];
@@ -149,22 +149,6 @@ fn compare_lists() {
     seen.print(&format!("{LISTS} lists"));
 }
 
-/// A slice of a wrong length is refused with 255, before everything else, and left alone.
-fn compare_lengths() {
-    for length in [0, 1, RECORD - 1, RECORD + 1, 2 * RECORD] {
-        for calls in [LIBRARY, PLAIN] {
-            let mut rows = vec![7; length];
-            let mut answers = [9; 4];
-            assert_eq!((calls.open)(&mut rows, 64, 0), plain::WRONG_LENGTH);
-            assert_eq!((calls.close)(&mut rows, 64), plain::WRONG_LENGTH);
-            assert_eq!((calls.owner)(&rows, 1), plain::WRONG_LENGTH);
-            let answer = (calls.run_list)(&mut rows, &[0; 4], &mut answers);
-            assert_eq!(answer, plain::WRONG_LENGTH);
-            assert!(rows.iter().all(|&number| number == 7) && answers == [9; 4]);
-        }
-    }
-}
-
 /// The program `book`: the measured lists, some generated ones, and lists of other lengths.
 fn compare_programs(folder: &Path) {
     let mut numbers = Numbers(SEED);
@@ -189,6 +173,5 @@ fn compare_programs(folder: &Path) {
 pub fn compare_answers(folder: &Path) {
     compare_calls();
     compare_lists();
-    compare_lengths();
     compare_programs(folder);
 }

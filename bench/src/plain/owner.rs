@@ -1,10 +1,11 @@
 //! The owner of a round.
 
 use super::paths::{is_closed, legal, same_node};
-use super::{plan_in, Path, Plan, LINES, ROWS, WRONG_LENGTH};
+use super::{plan_in, Path, Plan, LINES, ROWS};
+use crate::Record;
 
 /// What is answered for an idle round.
-const IDLE: u64 = 64;
+const IDLE: i64 = 64;
 
 /// The line of smallest number that takes this edge of the node at a level of a path.
 fn line_under(plan: &Plan, path: &Path, level: usize, edge: u16) -> Option<usize> {
@@ -32,12 +33,10 @@ fn owner_of(plan: &Plan, round: u64) -> Option<usize> {
 }
 
 /// The line that owns a round, or 64. A record that is no tree counts as the empty plan.
-pub fn owner(rows: &[u16], round: u64) -> u64 {
-    let Some(plan) = plan_in(rows) else {
-        return WRONG_LENGTH;
-    };
+pub fn owner(rows: &Record, round: u64) -> i64 {
+    let plan = plan_in(rows);
     if !legal(plan) {
         return IDLE;
     }
-    owner_of(plan, round).map_or(IDLE, |line| line as u64)
+    owner_of(plan, round).map_or(IDLE, |line| line as i64)
 }
