@@ -3,24 +3,23 @@
 use Prim.Native.Nat.{ℕ}
 use native.Mathlib.Omega.{arith}
 use mathlib.Core.Path.{_≡_, refl, sym, _∙_, ap}
-use mathlib.Core.Bool.{Bool, true, false, true≢false}
+use mathlib.Core.Bool.{Bool, true, false}
 use mathlib.Core.List.{List, [], _∷_}
-use mathlib.Core.Option.{Option, none, some}
 use Rattle.tree.specs.declared.Plan.{Plan}
 use Rattle.tree.specs.Search.{if_then_else_}
 use Rattle.tree.specs.Tree.{Tree, nothing}
 use Rattle.tree.specs.Shape.{Legal}
-use Rattle.tree.specs.Calls.{Call, open-line, close-line, refusal, reply, carried-out, answer-unless, tree-unless, answer, after, Outcome, gives, refuses}
+use Rattle.tree.specs.Calls.{Call, answer, after, Outcome, gives, refuses}
 use Rattle.tree.specs.Lists.{all-closed, Entry, calls-of, reference-from, answered-from}
 use Rattle.tree.specs.Demand3.{Demand3}
 use Rattle.tree.specs.Record.{treeOf, recordOf}
-use Rattle.tree.proofs.Checks.{neither}
 use Rattle.tree.proofs.Agreement.{agree-at-first, agree-along}
 use Rattle.bridge.proofs.RecordRoundTrip.{record-has-tree}
 use Rattle.orders.specs.Reading.{reading}
 use Rattle.orders.proofs.ReadingChecks.{readable-is-read, unreadable-is-refused}
-use Rattle.lists.specs.Lists.{answer-read, after-read, order-answer, order-after, carried, orders-of, list-answers, list-after, some-carried}
+use Rattle.lists.specs.Lists.{answer-read, after-read, order-answer, order-after, orders-of, list-answers, list-after, some-carried}
 use Rattle.lists.specs.Runs.{bytes-after, plan-run, plan-after-list, bytes-after-list}
+use Rattle.lists.proofs.TreeLeftAlone.{list-left-alone}
 use Rattle.plan.specs.Meets.{empty-plan}
 use Rattle.plan.proofs.Changes.{empty-tree}
 use Rattle.history.specs.OrdersRun.{OrdersAnswered, no-order, can-be-read, cannot-be-read, Demand3OfLists}
@@ -63,28 +62,6 @@ orders-by-the-rules (n ∷ ns) t = by-reading (λ s. orders-by-the-rules ns s) (
         }
 
 -- The plan after a list
-
--- what was not carried out left the tree alone
-call-left-alone : (c : Call) (t : Tree) → carried (answer c t) ≡ false → after c t ≡ t
-unfolding answer answer-unless reply after tree-unless carried
-call-left-alone c t = by-refusal c (refusal c t)
-  where
-    by-refusal : (d : Call) (o : Option ℕ) → carried (answer-unless o (reply d t)) ≡ false → tree-unless o t (carried-out c t) ≡ t
-    by-refusal d (some n) h = refl
-    by-refusal (open-line L p) none h = absurd (true≢false h)
-    by-refusal (close-line L) none h = absurd (true≢false h)
-
-order-left-alone : (o : Outcome Call) (t : Tree) → carried (answer-read o t) ≡ false → after-read o t ≡ t
-unfolding answer-read after-read
-order-left-alone (gives c) t h = call-left-alone c t h
-order-left-alone (refuses n) t h = refl
-
-list-left-alone : (ns : List ℕ) (t : Tree) → some-carried (list-answers t ns) ≡ false → list-after t ns ≡ t
-unfolding list-answers list-after order-answer order-after some-carried
-list-left-alone [] t h = refl
-list-left-alone (n ∷ ns) t h =
-    let both = neither (carried (order-answer n t)) (some-carried (list-answers (order-after n t) ns)) h in
-    list-left-alone ns (order-after n t) (both .1) ∙ order-left-alone (reading n) t (both .0)
 
 -- the plan that a list leaves has the tree that the rules leave
 run-tree : (plan : Plan) (ns : List ℕ) → Legal (list-after (treeOf plan) ns) → treeOf (plan-run plan ns) ≡ list-after (treeOf plan) ns
