@@ -34,23 +34,30 @@ static void open_and_close(void) {
     EXPECT(gaplinte_close(&plan, UINT64_MAX), -GAPLINTE_LINE_ABOVE_63);
 }
 
-/* The record of the plan has the path that show gives, and a closed line has none. */
 static void ask(void) {
-    const gaplinte_shown expected = {12, 3, {{2, 1}, {3, 1}, {2, 0}, {0, 0}, {0, 0}, {0, 0}, {0, 0}, {0, 0}, {0, 0}}};
-    const gaplinte_row closed[GAPLINTE_ROWS] = {{0, 0}};
-    gaplinte_shown shown;
     EXPECT(gaplinte_owner(&plan, 7), 2);
     EXPECT(gaplinte_owner(&plan, 10), GAPLINTE_IDLE);
     EXPECT(gaplinte_owner(&plan, UINT64_MAX), 4);
     EXPECT(gaplinte_turns(&plan, 4, 100), 9);
     EXPECT(gaplinte_turns(&plan, 3, 100), -GAPLINTE_LINE_NOT_OPEN);
+}
+
+/* The plan has the path that show gives, and a line that is not open has none. */
+static void show(void) {
+    const gaplinte_row path[GAPLINTE_ROWS] = {{2, 1}, {3, 1}, {2, 0}}, no_path[GAPLINTE_ROWS] = {{0, 0}};
+    gaplinte_shown shown, found;
     EXPECT(gaplinte_show(&plan, 4, &shown), 0);
-    EXPECT_SAME(shown, expected);
-    EXPECT_SAME(plan.paths[4], expected.path);
-    EXPECT_SAME(plan.paths[3], closed);
+    EXPECT(shown.period, 12);
+    EXPECT(shown.start, 3);
+    EXPECT(shown.path[1].weight, 3);
+    EXPECT(shown.path[1].edge, 1);
+    EXPECT_SAME(shown.path, path);
+    EXPECT_SAME(plan.paths[4], path);
+    EXPECT_SAME(plan.paths[3], no_path);
+    found = shown;
     EXPECT(gaplinte_show(&plan, 3, &shown), -GAPLINTE_LINE_NOT_OPEN);
     EXPECT(gaplinte_show(&plan, 64, &shown), -GAPLINTE_LINE_ABOVE_63);
-    EXPECT_SAME(shown, expected);
+    EXPECT_SAME(shown, found);
 }
 
 static void walk(void) {
@@ -97,20 +104,22 @@ static void list(void) {
 
 static void order(void) {
     const gaplinte_order packed = {{0x03, 0x12, 0x30}};
-    const gaplinte_call expected = {GAPLINTE_KIND_OPEN, 3, 291};
     gaplinte_order bytes;
-    gaplinte_call call;
+    gaplinte_call call, found;
     EXPECT(gaplinte_pack(GAPLINTE_KIND_OPEN, 3, 291, &bytes), 0);
     EXPECT_SAME(bytes, packed);
     EXPECT(gaplinte_read(&bytes, &call), 0);
-    EXPECT_SAME(call, expected);
+    EXPECT(call.kind, GAPLINTE_KIND_OPEN);
+    EXPECT(call.line, 3);
+    EXPECT(call.period, 291);
+    found = call;
     EXPECT(gaplinte_pack(GAPLINTE_KIND_CLOSE, 3, 1, &bytes), -GAPLINTE_NO_ORDER);
     EXPECT(gaplinte_pack(GAPLINTE_KIND_OPEN, 64, 4, &bytes), -GAPLINTE_LINE_ABOVE_63);
     EXPECT(gaplinte_pack(GAPLINTE_KIND_OPEN, 3, 65548, &bytes), -GAPLINTE_PERIOD_OUT_OF_RANGE);
     EXPECT_SAME(bytes, packed);
     bytes.bytes[2] |= 1;
     EXPECT(gaplinte_read(&bytes, &call), -GAPLINTE_NO_ORDER);
-    EXPECT_SAME(call, expected);
+    EXPECT_SAME(call, found);
 }
 
 /* Each refusal once, as a call answers it. */
@@ -192,6 +201,7 @@ static void damaged(void) {
 int main(void) {
     open_and_close();
     ask();
+    show();
     walk();
     every_round();
     list();
