@@ -6,35 +6,35 @@
 #include "gaplinte.h"
 
 /* All 0 is the empty plan. */
-static uint16_t plan[GAPLINTE_PLAN_NUMBERS];
+static gaplinte_plan plan;
 static int differences;
 
-/* Opens a line; document 01 expects this refusal, 0 for none, and this start. */
-static void book(uint64_t line, uint64_t period, unsigned refusal, uint64_t start) {
-    uint64_t answer = gaplinte_open(plan, GAPLINTE_PLAN_NUMBERS, line, period);
-    unsigned refused = gaplinte_refusal(answer);
-    if (refused != 0)
-        printf("line %" PRIu64 ", period %" PRIu64 ": refused with %u\n", line, period, refused);
+/* Opens a line. Document 01 expects this answer: a start, or minus the number of a refusal. */
+static void book(uint64_t line, uint64_t period, int64_t expected) {
+    int64_t answer = gaplinte_open(&plan, line, period);
+    printf("line %" PRIu64 ", period %" PRIu64 ": ", line, period);
+    if (answer < 0)
+        printf("refused with %u: %s\n", gaplinte_refusal(answer), gaplinte_refusal_text(answer));
     else
-        printf("line %" PRIu64 ", period %" PRIu64 ": starts at %" PRIu64 "\n", line, period, answer);
-    if (refused != refusal || (refused == 0 && answer != start)) differences++;
+        printf("starts at %" PRId64 "\n", answer);
+    if (answer != expected) differences++;
 }
 
-static void ask(uint64_t round, uint64_t owner) {
-    uint64_t answer = gaplinte_owner(plan, GAPLINTE_PLAN_NUMBERS, round);
-    if (answer == GAPLINTE_IDLE)
+static void ask(uint64_t round, int64_t expected) {
+    int64_t owner = gaplinte_owner(&plan, round);
+    if (owner == GAPLINTE_IDLE)
         printf("round %" PRIu64 ": idle\n", round);
     else
-        printf("round %" PRIu64 ": line %" PRIu64 "\n", round, answer);
-    if (answer != owner) differences++;
+        printf("round %" PRIu64 ": line %" PRId64 "\n", round, owner);
+    if (owner != expected) differences++;
 }
 
 int main(void) {
-    book(1, 4, 0, 0);
-    book(2, 6, 0, 1);
-    book(3, 8, 0, 2);
-    book(4, 2, GAPLINTE_NO_CANDIDATE, 0);
-    book(4, 12, 0, 3);
+    book(1, 4, 0);
+    book(2, 6, 1);
+    book(3, 8, 2);
+    book(4, 2, -GAPLINTE_NO_CANDIDATE);
+    book(4, 12, 3);
     ask(7, 2);
     ask(9, GAPLINTE_IDLE);
     ask(10, 3);

@@ -1,13 +1,22 @@
 /* Gaplinte: a plan of rounds for one recorder. The calls of the proved library, for C99 and C++.
  *
- * A slice is a pointer and the number of its elements. The pointer is not null, also for a slice of length 0, and
- * slices that are lent to one call do not overlap. The library keeps nothing between calls.
+ * Answers. Each call answers one number: its value, 0 or more, or minus the number of a refusal, -1 to -9. A refusal
+ * stays negative where it is kept in a narrower signed type. A refused call leaves all that it was lent as found.
  *
- * Every call answers one number: its value, or 2^56 times the number with which it is refused. No value reaches 2^56. A
- * slice of a wrong length is refused with 255, before everything else. A refused call leaves every lent slice as found.
+ * The plan. The caller keeps it and lends it to the calls. For each line it has 11 rows of weight and edge: the nodes
+ * above the line, from the root on. Rows that are not used are 0 and 0, and a line that is not open uses none. As
+ * numbers of 16 bits, the weight of line L's row k is number 22 L + 2 k, and its edge is the next one. All 0 is the
+ * empty plan: `gaplinte_plan plan = {0};` in C, `gaplinte_plan plan{};` in C++. The numbers are in the machine's byte
+ * order, so a stored plan is for machines of one byte order.
  *
- * A plan is a slice of GAPLINTE_PLAN_NUMBERS numbers that belongs to the caller; all 0 is the empty plan. A plan that
- * is no tree is treated by every call as the empty plan.
+ * A plan that is no tree (damaged, say, or never written) is treated by each call as the empty plan: owner answers
+ * idle, show, turns and close refuse with 4, and an open that is not refused replaces it. gaplinte_is_tree tells.
+ *
+ * Threads. The library keeps nothing between calls and has no global data, so calls on different records may run in
+ * different threads. While one thread changes a record, no other may use it.
+ *
+ * Pointers. None is null, also where a list or a buffer has no bytes. Records and buffers lent to one call do not
+ * overlap.
  *
  * Link with libgaplinte.a, which `rt staticlib gaplinte` writes to target/staticlib. */
 #ifndef GAPLINTE_H
@@ -16,29 +25,26 @@
 #include <stddef.h>
 #include <stdint.h>
 
-#ifdef __cplusplus
-extern "C" {
-#endif
-
-/* The lengths of the slices. */
-#define GAPLINTE_PLAN_NUMBERS 1408
-#define GAPLINTE_SHOWN_NUMBERS 24
-#define GAPLINTE_PLACE_NUMBERS 2
-#define GAPLINTE_ORDER_BYTES 3
-#define GAPLINTE_FIELD_NUMBERS 3
-
-/* Most bytes of a list of orders, and the bytes that each order is answered with. */
-#define GAPLINTE_LIST_BYTES 65535
-#define GAPLINTE_ANSWER_BYTES 2
-
-/* Where a round has no owner, this stands for the line. Lines are 0 to 63. */
+/* Lines are 0 to 63. */
+#define GAPLINTE_LINES 64
+/* Where a round has no owner, this stands for the line. */
 #define GAPLINTE_IDLE 64
+/* The longest period; the shortest is 1. */
+#define GAPLINTE_LONGEST_PERIOD 4095
+/* The rows of a path, used or not. */
+#define GAPLINTE_ROWS 11
 
 /* Kinds of orders. */
 #define GAPLINTE_KIND_OPEN 0
 #define GAPLINTE_KIND_CLOSE 1
 
-/* The refusals. */
+/* The bytes of an order, those that it is answered with in a list, and the bytes and orders of the longest list. */
+#define GAPLINTE_ORDER_BYTES 3
+#define GAPLINTE_ANSWER_BYTES 2
+#define GAPLINTE_LIST_BYTES 65535
+#define GAPLINTE_LIST_ORDERS 21845
+
+/* The numbers of the refusals. */
 #define GAPLINTE_LINE_ABOVE_63 1
 #define GAPLINTE_PERIOD_OUT_OF_RANGE 2
 #define GAPLINTE_LINE_OPEN 3
@@ -48,43 +54,130 @@ extern "C" {
 #define GAPLINTE_LIST_LENGTH 7
 #define GAPLINTE_ANSWERS_TOO_SHORT 8
 #define GAPLINTE_WALKER_AT_END 9
-#define GAPLINTE_WRONG_LENGTH 255
 
-/* The number with which a call was refused, or 0 where it was not refused and its answer is a value. */
-static inline unsigned gaplinte_refusal(uint64_t answer) { return (unsigned)(answer >> 56); }
+/* So that compilers warn where an answer is thrown away, and a refusal with it. */
+#if defined(__cplusplus) && __cplusplus >= 201703L
+#define GAPLINTE_NODISCARD [[nodiscard]]
+#elif defined(__STDC_VERSION__) && __STDC_VERSION__ >= 202311L
+#define GAPLINTE_NODISCARD [[nodiscard]]
+#elif defined(__GNUC__)
+#define GAPLINTE_NODISCARD __attribute__((warn_unused_result))
+#else
+#define GAPLINTE_NODISCARD
+#endif
+
+#ifdef __cplusplus
+extern "C" {
+#endif
+
+/* One row of a path: a node's weight, and the edge taken there. */
+typedef struct gaplinte_row {
+    uint16_t weight;
+    uint16_t edge;
+} gaplinte_row;
+
+/* A plan: the path of each line. */
+typedef struct gaplinte_plan {
+    gaplinte_row paths[GAPLINTE_LINES][GAPLINTE_ROWS];
+} gaplinte_plan;
+
+/* What show writes: a line's period, its start, and its path from the root on. */
+typedef struct gaplinte_shown {
+    uint16_t period;
+    uint16_t start;
+    gaplinte_row path[GAPLINTE_ROWS];
+} gaplinte_shown;
+
+/* A walker's place: the next round, and how many of the rounds seen were owned. All 0 is before round 0. */
+typedef struct gaplinte_place {
+    uint64_t next;
+    uint64_t owned;
+} gaplinte_place;
+
+/* An order, as it stands in a list. */
+typedef struct gaplinte_order {
+    uint8_t bytes[GAPLINTE_ORDER_BYTES];
+} gaplinte_order;
+
+/* What read writes: the call that an order asks for. A close has period 0. */
+typedef struct gaplinte_call {
+    uint16_t kind;
+    uint16_t line;
+    uint16_t period;
+} gaplinte_call;
+
+/* The sizes that the library was built with. */
+#if defined(__cplusplus) && __cplusplus >= 201103L
+#define GAPLINTE_SIZE(type, size) static_assert(sizeof(type) == (size), #type " has another size in the library")
+#elif defined(__STDC_VERSION__) && __STDC_VERSION__ >= 201112L
+#define GAPLINTE_SIZE(type, size) _Static_assert(sizeof(type) == (size), #type " has another size in the library")
+#endif
+#ifdef GAPLINTE_SIZE
+GAPLINTE_SIZE(gaplinte_plan, 2816);
+GAPLINTE_SIZE(gaplinte_shown, 48);
+GAPLINTE_SIZE(gaplinte_place, 16);
+GAPLINTE_SIZE(gaplinte_order, 3);
+GAPLINTE_SIZE(gaplinte_call, 6);
+#undef GAPLINTE_SIZE
+#endif
+
+/* The number with which a call was refused, or 0 where its answer is a value. */
+static inline unsigned gaplinte_refusal(int64_t answer) {
+    return answer < 0 ? (unsigned)(0 - (uint64_t)answer) : 0;
+}
+
+/* The refusal of an answer in English, or "not refused" where it is a value. */
+static inline const char *gaplinte_refusal_text(int64_t answer) {
+    if (answer >= 0) return "not refused";
+    switch (answer) {
+        case -GAPLINTE_LINE_ABOVE_63: return "the line is above 63";
+        case -GAPLINTE_PERIOD_OUT_OF_RANGE: return "the period is not 1 to 4095";
+        case -GAPLINTE_LINE_OPEN: return "the line is open already";
+        case -GAPLINTE_LINE_NOT_OPEN: return "the line is not open";
+        case -GAPLINTE_NO_CANDIDATE: return "no node of the plan is a candidate for the period";
+        case -GAPLINTE_NO_ORDER:
+            return "no order: the kind is above 1, a close has a period, or one of the last four bits is 1";
+        case -GAPLINTE_LIST_LENGTH: return "the list is longer than 65535 bytes or ends inside an order";
+        case -GAPLINTE_ANSWERS_TOO_SHORT: return "the buffer has fewer than two bytes for each order";
+        case -GAPLINTE_WALKER_AT_END: return "the walker's next round or count is 2^64 - 1";
+        default: return "no call is refused so";
+    }
+}
 
 /* Opens a line with a period of 1 to 4,095 rounds. The value is its start. Refused with 1, 2, 3 or 5. */
-uint64_t gaplinte_open(uint16_t *plan, size_t plan_numbers, uint64_t line, uint64_t period);
+GAPLINTE_NODISCARD int64_t gaplinte_open(gaplinte_plan *plan, uint64_t line, uint64_t period);
 
 /* Closes a line. The value is 0. Refused with 1 or 4. */
-uint64_t gaplinte_close(uint16_t *plan, size_t plan_numbers, uint64_t line);
+GAPLINTE_NODISCARD int64_t gaplinte_close(gaplinte_plan *plan, uint64_t line);
 
-/* The owner of a round. The value is its line, or GAPLINTE_IDLE. Never refused for its arguments. */
-uint64_t gaplinte_owner(const uint16_t *plan, size_t plan_numbers, uint64_t round);
+/* The owner of a round. The value is a line, or GAPLINTE_IDLE. Never refused. */
+GAPLINTE_NODISCARD int64_t gaplinte_owner(const gaplinte_plan *plan, uint64_t round);
 
-/* Shows a line: GAPLINTE_SHOWN_NUMBERS numbers are written, its period, its start, then the 11 rows of its path from
- * the root on, each a weight and an edge; unused rows are 0 and 0. The value is 0. Refused with 1 or 4. */
-uint64_t gaplinte_show(const uint16_t *plan, size_t plan_numbers, uint64_t line, uint16_t *shown, size_t shown_numbers);
+/* Shows a line: its period, start and path are written. The value is 0. Refused with 1 or 4. */
+GAPLINTE_NODISCARD int64_t gaplinte_show(const gaplinte_plan *plan, uint64_t line, gaplinte_shown *shown);
 
-/* Turns of a line in so many successive rounds: the value is a figure that they do not exceed, at most 2^32. Refused
- * with 1 or 4. */
-uint64_t gaplinte_turns(const uint16_t *plan, size_t plan_numbers, uint64_t line, uint32_t rounds);
+/* The turns of a line in so many rounds one after the other. The value is a figure that they do not exceed, at most
+ * 2^32. Refused with 1 or 4. */
+GAPLINTE_NODISCARD int64_t gaplinte_turns(const gaplinte_plan *plan, uint64_t line, uint32_t rounds);
 
-/* The walker. Its place is two numbers, the next round and the count of owned rounds seen. The value is the owner of
- * the next round, a line or GAPLINTE_IDLE; 1 is added to that round, and 1 to the count if it was owned. Refused with
- * 9. */
-uint64_t gaplinte_walk(const uint16_t *plan, size_t plan_numbers, uint64_t *place, size_t place_numbers);
+/* The walker. The value is the owner of the next round, a line or GAPLINTE_IDLE; the place moves on by that round, and
+ * its count by 1 where the round is owned. Refused with 9 where either number is 2^64 - 1. */
+GAPLINTE_NODISCARD int64_t gaplinte_walk(const gaplinte_plan *plan, gaplinte_place *place);
 
-/* Runs a list of orders, 3 bytes each, and writes 2 bytes for each: result 4 bits (0 or the refusal of that order) and
- * start 12 bits (0 unless a line was opened). Bytes beyond are untouched. The value is 0. Refused with 7 or 8. */
-uint64_t gaplinte_run_list(uint16_t *plan, size_t plan_numbers, const uint8_t *orders, size_t order_bytes,
-                           uint8_t *answers, size_t answer_bytes);
+/* Runs a list of orders, 3 bytes each, and writes 2 bytes for each: 4 bits of result, 0 or the number with which the
+ * order is refused, and 12 bits of start, 0 unless it opened a line. Later bytes of the buffer are left alone. The
+ * value is 0. Refused with 7 or 8. */
+GAPLINTE_NODISCARD int64_t gaplinte_run_list(gaplinte_plan *plan, const uint8_t *orders, size_t order_bytes,
+                                             uint8_t *answers, size_t answer_bytes);
 
-/* Packs an order into GAPLINTE_ORDER_BYTES bytes. A close has period 0. The value is 0. Refused with 6, 1 or 2. */
-uint64_t gaplinte_pack(uint64_t kind, uint64_t line, uint64_t period, uint8_t *order, size_t order_bytes);
+/* Packs an order of a kind; a close has period 0. The value is 0. Refused with 6, 1 or 2. */
+GAPLINTE_NODISCARD int64_t gaplinte_pack(uint64_t kind, uint64_t line, uint64_t period, gaplinte_order *order);
 
-/* Reads an order: kind, line and period are written, GAPLINTE_FIELD_NUMBERS numbers. The value is 0. Refused with 6. */
-uint64_t gaplinte_read(const uint8_t *order, size_t order_bytes, uint16_t *fields, size_t field_numbers);
+/* Reads an order: kind, line and period are written. The value is 0. Refused with 6. */
+GAPLINTE_NODISCARD int64_t gaplinte_read(const gaplinte_order *order, gaplinte_call *call);
+
+/* Whether a plan is a tree. The value is 1, or 0 where each call treats the plan as the empty one. Never refused. */
+GAPLINTE_NODISCARD int64_t gaplinte_is_tree(const gaplinte_plan *plan);
 
 #ifdef __cplusplus
 }

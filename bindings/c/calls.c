@@ -1,91 +1,213 @@
 /* Each call of include/gaplinte.h from C, with answers that document 01 gives: so that the declarations are those of
- * the library. Prints what differs, and exits with 1 if anything does. */
+ * the library. Prints what differs, and exits with 1 if anything does. It is C++ too. */
 #include <inttypes.h>
 #include <stdio.h>
 #include <string.h>
 
 #include "gaplinte.h"
 
-static uint16_t plan[GAPLINTE_PLAN_NUMBERS];
+#define REFUSALS 9
+
+static gaplinte_plan plan;
 static int differences;
 
-static void expect(int line, uint64_t answer, uint64_t expected) {
+static void expect(int line, int64_t answer, int64_t expected) {
     if (answer == expected) return;
-    printf("calls.c:%d: %" PRIu64 " and not %" PRIu64 "\n", line, answer, expected);
+    printf("calls.c:%d: %" PRId64 " and not %" PRId64 "\n", line, answer, expected);
     differences++;
 }
 
 #define EXPECT(answer, expected) expect(__LINE__, answer, expected)
-#define REFUSED(number) ((uint64_t)(number) << 56)
-#define PLAN plan, GAPLINTE_PLAN_NUMBERS
+#define EXPECT_SAME(found, expected) EXPECT(memcmp(&(found), &(expected), sizeof(expected)), 0)
 
 static void open_and_close(void) {
-    EXPECT(gaplinte_open(PLAN, 1, 4), 0);
-    EXPECT(gaplinte_open(PLAN, 2, 6), 1);
-    EXPECT(gaplinte_open(PLAN, 3, 8), 2);
-    EXPECT(gaplinte_open(PLAN, 4, 2), REFUSED(GAPLINTE_NO_CANDIDATE));
-    EXPECT(gaplinte_open(PLAN, 4, 12), 3);
-    EXPECT(gaplinte_open(PLAN, 5, 65548), REFUSED(GAPLINTE_PERIOD_OUT_OF_RANGE));
-    EXPECT(gaplinte_open(PLAN, 4, 12), REFUSED(GAPLINTE_LINE_OPEN));
-    EXPECT(gaplinte_open(PLAN, 64, 12), REFUSED(GAPLINTE_LINE_ABOVE_63));
-    EXPECT(gaplinte_close(PLAN, 3), 0);
-    EXPECT(gaplinte_close(PLAN, 3), REFUSED(GAPLINTE_LINE_NOT_OPEN));
-    EXPECT(gaplinte_open(plan, 1407, 5, 4), REFUSED(GAPLINTE_WRONG_LENGTH));
+    EXPECT(gaplinte_open(&plan, 1, 4), 0);
+    EXPECT(gaplinte_open(&plan, 2, 6), 1);
+    EXPECT(gaplinte_open(&plan, 3, 8), 2);
+    EXPECT(gaplinte_open(&plan, 4, 2), -GAPLINTE_NO_CANDIDATE);
+    EXPECT(gaplinte_open(&plan, 4, 12), 3);
+    EXPECT(gaplinte_open(&plan, 5, 65548), -GAPLINTE_PERIOD_OUT_OF_RANGE);
+    EXPECT(gaplinte_open(&plan, 4, 12), -GAPLINTE_LINE_OPEN);
+    EXPECT(gaplinte_open(&plan, 64, 12), -GAPLINTE_LINE_ABOVE_63);
+    EXPECT(gaplinte_close(&plan, 3), 0);
+    EXPECT(gaplinte_close(&plan, 3), -GAPLINTE_LINE_NOT_OPEN);
+    EXPECT(gaplinte_close(&plan, UINT64_MAX), -GAPLINTE_LINE_ABOVE_63);
 }
 
 static void ask(void) {
-    uint16_t shown[GAPLINTE_SHOWN_NUMBERS];
-    const uint16_t expected[GAPLINTE_SHOWN_NUMBERS] = {12, 3, 2, 1, 3, 1, 2, 0};
-    uint64_t place[GAPLINTE_PLACE_NUMBERS] = {7, 0};
-    EXPECT(gaplinte_owner(PLAN, 7), 2);
-    EXPECT(gaplinte_owner(PLAN, 10), GAPLINTE_IDLE);
-    EXPECT(gaplinte_turns(PLAN, 4, 100), 9);
-    EXPECT(gaplinte_show(PLAN, 4, shown, GAPLINTE_SHOWN_NUMBERS), 0);
-    EXPECT((uint64_t)memcmp(shown, expected, sizeof shown), 0);
-    EXPECT(gaplinte_walk(PLAN, place, GAPLINTE_PLACE_NUMBERS), 2);
-    EXPECT(gaplinte_walk(PLAN, place, GAPLINTE_PLACE_NUMBERS), 1);
-    EXPECT(gaplinte_walk(PLAN, place, GAPLINTE_PLACE_NUMBERS), GAPLINTE_IDLE);
-    EXPECT(place[0], 10);
-    EXPECT(place[1], 2);
-    place[0] = UINT64_MAX;
-    EXPECT(gaplinte_walk(PLAN, place, GAPLINTE_PLACE_NUMBERS), REFUSED(GAPLINTE_WALKER_AT_END));
+    EXPECT(gaplinte_owner(&plan, 7), 2);
+    EXPECT(gaplinte_owner(&plan, 10), GAPLINTE_IDLE);
+    EXPECT(gaplinte_owner(&plan, UINT64_MAX), 4);
+    EXPECT(gaplinte_turns(&plan, 4, 100), 9);
+    EXPECT(gaplinte_turns(&plan, 3, 100), -GAPLINTE_LINE_NOT_OPEN);
+}
+
+/* The plan has the path that show gives, and a line that is not open has none. */
+static void show(void) {
+    const gaplinte_row path[GAPLINTE_ROWS] = {{2, 1}, {3, 1}, {2, 0}}, no_path[GAPLINTE_ROWS] = {{0, 0}};
+    gaplinte_shown shown, found;
+    EXPECT(gaplinte_show(&plan, 4, &shown), 0);
+    EXPECT(shown.period, 12);
+    EXPECT(shown.start, 3);
+    EXPECT(shown.path[1].weight, 3);
+    EXPECT(shown.path[1].edge, 1);
+    EXPECT_SAME(shown.path, path);
+    EXPECT_SAME(plan.paths[4], path);
+    EXPECT_SAME(plan.paths[3], no_path);
+    found = shown;
+    EXPECT(gaplinte_show(&plan, 3, &shown), -GAPLINTE_LINE_NOT_OPEN);
+    EXPECT(gaplinte_show(&plan, 64, &shown), -GAPLINTE_LINE_ABOVE_63);
+    EXPECT_SAME(shown, found);
+}
+
+static void walk(void) {
+    gaplinte_place place = {7, 0};
+    EXPECT(gaplinte_walk(&plan, &place), 2);
+    EXPECT(gaplinte_walk(&plan, &place), 1);
+    EXPECT(gaplinte_walk(&plan, &place), 64);
+    EXPECT((int64_t)place.next, 10);
+    EXPECT((int64_t)place.owned, 2);
+    place.next = UINT64_MAX;
+    EXPECT(gaplinte_walk(&plan, &place), -GAPLINTE_WALKER_AT_END);
+    EXPECT(place.next == UINT64_MAX, 1);
+    EXPECT((int64_t)place.owned, 2);
+}
+
+/* The longest figure of turns has 33 bits. */
+static void every_round(void) {
+    memset(&plan, 0, sizeof plan);
+    EXPECT(gaplinte_open(&plan, 63, 1), 0);
+    EXPECT(gaplinte_turns(&plan, 63, UINT32_MAX), INT64_C(4294967296));
+    EXPECT(gaplinte_owner(&plan, UINT64_MAX), 63);
 }
 
 /* Marked case I. */
 static void list(void) {
     const uint8_t orders[] = {0x01, 0x00, 0x60, 0x02, 0x00, 0x20, 0x03, 0x00, 0x30,
                               0x42, 0x00, 0x00, 0x03, 0x00, 0x30, 0x42, 0x00, 0x00};
-    const uint8_t expected[] = {0x00, 0x00, 0x00, 0x01, 0x50, 0x00, 0x00, 0x00, 0x50, 0x00, 0x40, 0x00};
-    uint8_t answers[sizeof expected];
-    memset(plan, 0, sizeof plan);
-    EXPECT(gaplinte_run_list(PLAN, orders, sizeof orders - 1, answers, sizeof answers), REFUSED(GAPLINTE_LIST_LENGTH));
-    EXPECT(gaplinte_run_list(PLAN, orders, sizeof orders, answers, 11), REFUSED(GAPLINTE_ANSWERS_TOO_SHORT));
-    EXPECT(gaplinte_run_list(PLAN, orders, sizeof orders, answers, sizeof answers), 0);
-    EXPECT((uint64_t)memcmp(answers, expected, sizeof answers), 0);
-    EXPECT(gaplinte_owner(PLAN, 6), 1);
-    EXPECT(gaplinte_owner(PLAN, 1), GAPLINTE_IDLE);
+    const uint8_t expected[] = {0x00, 0x00, 0x00, 0x01, 0x50, 0x00, 0x00, 0x00, 0x50, 0x00, 0x40, 0x00, 0xee};
+    const uint8_t lent[] = {0xee, 0xee, 0xee, 0xee, 0xee, 0xee, 0xee, 0xee, 0xee, 0xee, 0xee, 0xee, 0xee};
+    const gaplinte_plan empty = {{{{0, 0}}}};
+    uint8_t answers[sizeof lent];
+    memcpy(answers, lent, sizeof lent);
+    plan = empty;
+    EXPECT(gaplinte_run_list(&plan, orders, sizeof orders - 1, answers, sizeof answers), -GAPLINTE_LIST_LENGTH);
+    EXPECT(gaplinte_run_list(&plan, orders, sizeof orders, answers, 11), -GAPLINTE_ANSWERS_TOO_SHORT);
+    EXPECT(gaplinte_run_list(&plan, orders, 0, answers, 0), 0);
+    EXPECT_SAME(answers, lent);
+    EXPECT_SAME(plan, empty);
+    EXPECT(gaplinte_run_list(&plan, orders, sizeof orders, answers, sizeof answers), 0);
+    EXPECT_SAME(answers, expected);
+    EXPECT(gaplinte_owner(&plan, 6), 1);
+    EXPECT(gaplinte_owner(&plan, 1), GAPLINTE_IDLE);
 }
 
 static void order(void) {
-    uint8_t bytes[GAPLINTE_ORDER_BYTES];
-    uint16_t fields[GAPLINTE_FIELD_NUMBERS];
-    EXPECT(gaplinte_pack(GAPLINTE_KIND_OPEN, 3, 291, bytes, GAPLINTE_ORDER_BYTES), 0);
-    EXPECT((uint64_t)bytes[0] << 16 | (uint64_t)bytes[1] << 8 | bytes[2], 0x031230);
-    EXPECT(gaplinte_read(bytes, GAPLINTE_ORDER_BYTES, fields, GAPLINTE_FIELD_NUMBERS), 0);
-    EXPECT(fields[0], GAPLINTE_KIND_OPEN);
-    EXPECT(fields[1], 3);
-    EXPECT(fields[2], 291);
-    EXPECT(gaplinte_pack(GAPLINTE_KIND_CLOSE, 3, 1, bytes, GAPLINTE_ORDER_BYTES), REFUSED(GAPLINTE_NO_ORDER));
-    bytes[2] |= 1;
-    EXPECT(gaplinte_read(bytes, GAPLINTE_ORDER_BYTES, fields, GAPLINTE_FIELD_NUMBERS), REFUSED(GAPLINTE_NO_ORDER));
-    EXPECT(gaplinte_refusal(REFUSED(GAPLINTE_NO_ORDER)), 6);
+    const gaplinte_order packed = {{0x03, 0x12, 0x30}};
+    gaplinte_order bytes;
+    gaplinte_call call, found;
+    EXPECT(gaplinte_pack(GAPLINTE_KIND_OPEN, 3, 291, &bytes), 0);
+    EXPECT_SAME(bytes, packed);
+    EXPECT(gaplinte_read(&bytes, &call), 0);
+    EXPECT(call.kind, GAPLINTE_KIND_OPEN);
+    EXPECT(call.line, 3);
+    EXPECT(call.period, 291);
+    found = call;
+    EXPECT(gaplinte_pack(GAPLINTE_KIND_CLOSE, 3, 1, &bytes), -GAPLINTE_NO_ORDER);
+    EXPECT(gaplinte_pack(GAPLINTE_KIND_OPEN, 64, 4, &bytes), -GAPLINTE_LINE_ABOVE_63);
+    EXPECT(gaplinte_pack(GAPLINTE_KIND_OPEN, 3, 65548, &bytes), -GAPLINTE_PERIOD_OUT_OF_RANGE);
+    EXPECT_SAME(bytes, packed);
+    bytes.bytes[2] |= 1;
+    EXPECT(gaplinte_read(&bytes, &call), -GAPLINTE_NO_ORDER);
+    EXPECT_SAME(call, found);
+}
+
+/* Each refusal once, as a call answers it. */
+static void bring_about(int64_t answers[REFUSALS]) {
+    const uint8_t orders[GAPLINTE_ORDER_BYTES] = {0x01, 0x00, 0x60};
+    gaplinte_place at_end = {UINT64_MAX, 0};
+    gaplinte_order packed;
+    uint8_t lent[1];
+    memset(&plan, 0, sizeof plan);
+    EXPECT(gaplinte_open(&plan, 0, 4), 0);
+    answers[0] = gaplinte_open(&plan, 64, 4);
+    answers[1] = gaplinte_open(&plan, 1, 0);
+    answers[2] = gaplinte_open(&plan, 0, 4);
+    answers[3] = gaplinte_close(&plan, 1);
+    answers[4] = gaplinte_open(&plan, 1, 3);
+    answers[5] = gaplinte_pack(2, 1, 4, &packed);
+    answers[6] = gaplinte_run_list(&plan, orders, 2, lent, sizeof lent);
+    answers[7] = gaplinte_run_list(&plan, orders, sizeof orders, lent, sizeof lent);
+    answers[8] = gaplinte_walk(&plan, &at_end);
+}
+
+/* A refusal is still negative, and the same one, where its answer was kept in a narrower type. */
+static void narrowed(void) {
+    int64_t answers[REFUSALS];
+    bring_about(answers);
+    for (int number = 1; number <= REFUSALS; number++) {
+        int64_t answer = answers[number - 1];
+        int in_int = (int)answer;
+        int32_t in_32_bits = (int32_t)answer;
+        signed char in_8_bits = (signed char)answer;
+        EXPECT(answer, -number);
+        EXPECT(in_int < 0 && in_32_bits < 0 && in_8_bits < 0, 1);
+        EXPECT(gaplinte_refusal(answer), number);
+        EXPECT(gaplinte_refusal(in_int), number);
+        EXPECT(gaplinte_refusal(in_32_bits), number);
+        EXPECT(gaplinte_refusal(in_8_bits), number);
+    }
+    EXPECT(gaplinte_refusal(0), 0);
     EXPECT(gaplinte_refusal(4095), 0);
+    EXPECT(gaplinte_refusal(INT64_C(4294967296)), 0);
+}
+
+/* Each refusal has a text of its own; a value has one, and so has every number that no call answers. */
+static void texts(void) {
+    for (int number = 0; number <= REFUSALS + 1; number++) {
+        EXPECT(strlen(gaplinte_refusal_text(-number)) > 0, 1);
+        for (int other = 0; other < number; other++)
+            EXPECT(strcmp(gaplinte_refusal_text(-number), gaplinte_refusal_text(-other)) != 0, 1);
+    }
+    EXPECT(strcmp(gaplinte_refusal_text(4095), "not refused"), 0);
+    EXPECT(strcmp(gaplinte_refusal_text(-GAPLINTE_LINE_OPEN), "the line is open already"), 0);
+    EXPECT(strcmp(gaplinte_refusal_text(INT64_MIN), gaplinte_refusal_text(-REFUSALS - 1)), 0);
+}
+
+/* A plan that is no tree is treated as the empty plan, and stays as found up to an open that is not refused. */
+static void damaged(void) {
+    gaplinte_plan empty, booked, found;
+    gaplinte_shown shown;
+    memset(&empty, 0, sizeof empty);
+    booked = empty;
+    EXPECT(gaplinte_is_tree(&empty), 1);
+    EXPECT(gaplinte_open(&booked, 3, 12), 0);
+    EXPECT(gaplinte_is_tree(&booked), 1);
+    found = booked;
+    found.paths[3][0].edge = 12;
+    plan = found;
+    EXPECT(gaplinte_is_tree(&plan), 0);
+    EXPECT(gaplinte_owner(&plan, 0), GAPLINTE_IDLE);
+    EXPECT(gaplinte_owner(&plan, 12), GAPLINTE_IDLE);
+    EXPECT(gaplinte_show(&plan, 3, &shown), -GAPLINTE_LINE_NOT_OPEN);
+    EXPECT(gaplinte_turns(&plan, 3, 7), -GAPLINTE_LINE_NOT_OPEN);
+    EXPECT(gaplinte_close(&plan, 3), -GAPLINTE_LINE_NOT_OPEN);
+    EXPECT(gaplinte_open(&plan, 3, 0), -GAPLINTE_PERIOD_OUT_OF_RANGE);
+    EXPECT_SAME(plan, found);
+    EXPECT(gaplinte_open(&plan, 3, 12), 0);
+    EXPECT_SAME(plan, booked);
 }
 
 int main(void) {
     open_and_close();
     ask();
+    show();
+    walk();
+    every_round();
     list();
     order();
+    narrowed();
+    texts();
+    damaged();
     return differences == 0 ? 0 : 1;
 }

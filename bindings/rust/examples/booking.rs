@@ -4,7 +4,7 @@
 use gaplinte::{Line, Period, Plan, Refusal, Round, Start};
 
 fn main() {
-    let mut plan = Plan::default();
+    let mut plan = Plan::new();
     let booked = [
         (1, 4, Ok(Start(0))),
         (2, 6, Ok(Start(1))),
@@ -15,7 +15,7 @@ fn main() {
     for (line, period, expected) in booked {
         let answer = plan.open(Line(line), Period(period));
         match answer {
-            Ok(start) => println!("line {line}, period {period}: starts at {}", start.0),
+            Ok(start) => println!("line {line}, period {period}: starts at {start}"),
             Err(refusal) => println!("line {line}, period {period}: {refusal}"),
         }
         assert_eq!(answer, expected);
@@ -23,7 +23,7 @@ fn main() {
     for (round, expected) in [(7, Some(Line(2))), (9, None), (10, Some(Line(3)))] {
         let owner = plan.owner(Round(round));
         match owner {
-            Some(line) => println!("round {round}: line {}", line.0),
+            Some(line) => println!("round {round}: line {line}"),
             None => println!("round {round}: idle"),
         }
         assert_eq!(owner, expected);

@@ -3,23 +3,28 @@
 //! ```
 //! use gaplinte::{Line, Period, Plan, Refusal, Round, Start};
 //!
-//! let mut plan = Plan::default();
+//! let mut plan = Plan::new();
 //! assert_eq!(plan.open(Line(1), Period(4)), Ok(Start(0)));
 //! assert_eq!(plan.open(Line(1), Period(6)), Err(Refusal::LineOpen));
 //! assert_eq!(plan.owner(Round(8)), Some(Line(1)));
 //! ```
+//!
+//! The static library is taken from the folder that the environment variable `GAPLINTE_LIBRARY_DIR` names when the
+//! crate is built, or else from `target/staticlib` of the repository.
 
-#![deny(unsafe_code)]
+#![deny(missing_docs, unsafe_code, clippy::missing_errors_doc)]
 
+mod answers;
+mod call;
 mod numbers;
-mod order;
 mod plan;
 pub mod raw;
 mod refusal;
 mod walker;
 
+pub use answers::{Answered, Answers};
+pub use call::Call;
 pub use numbers::{Line, Period, Round, Start};
-pub use order::{pack, read, Call};
-pub use plan::{Plan, Row, Shown};
+pub use plan::{OpenLine, Plan, Row, Shown};
 pub use refusal::Refusal;
 pub use walker::Walker;

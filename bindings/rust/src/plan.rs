@@ -1,113 +1,217 @@
 //! The plan, and the calls on it.
 
+use crate::answers::answers_length;
 use crate::raw;
 use crate::refusal::outcome;
-use crate::{Line, Period, Refusal, Round, Start};
-use std::fmt;
+use crate::{Answered, Answers, Line, Period, Refusal, Round, Start};
+use std::{array, fmt};
 
-/// A plan of rounds. `Plan::default()` is the empty one.
+/// A plan of rounds. [`Plan::new`] is the empty one.
 ///
-/// Two plans whose records are trees are equal exactly where the trees are.
+/// Two plans whose records are trees are equal exactly where the trees are. Calls on different plans may run in
+/// different threads, since the library keeps nothing between calls.
 #[derive(Clone, PartialEq, Eq)]
 pub struct Plan {
     rows: [u16; raw::PLAN_NUMBERS],
 }
 
 /// One row of a path: a node's weight, and the edge taken there.
-#[derive(Clone, Copy, Debug, Default, PartialEq, Eq)]
+#[derive(Clone, Copy, Debug, Default, PartialEq, Eq, Hash)]
 pub struct Row {
+    /// How many edges the node can have.
     pub weight: u16,
+    /// The number of the edge.
     pub edge: u16,
 }
 
-/// What show gives: the line's period, its start, and its path from the root on, unused rows 0 and 0.
-#[derive(Clone, Copy, Debug, PartialEq, Eq)]
+/// What show gives of a line.
+#[derive(Clone, Copy, Debug, PartialEq, Eq, Hash)]
 pub struct Shown {
+    /// Its period.
     pub period: Period,
+    /// Its start.
     pub start: Start,
+    /// Its path from the root on; unused rows are 0 and 0.
     pub rows: [Row; 11],
+}
+
+/// An open line of a plan.
+#[derive(Clone, Copy, Debug, PartialEq, Eq, Hash)]
+pub struct OpenLine {
+    /// Its number.
+    pub line: Line,
+    /// Its period.
+    pub period: Period,
+    /// Its start.
+    pub start: Start,
 }
 
 /// The line that a value of owner or of the walker stands for.
 pub(crate) fn line_or_idle(value: u64) -> Option<Line> {
-    (value != raw::IDLE).then_some(Line(value))
+    (value != raw::IDLE as u64).then_some(Line(value))
 }
 
 impl Plan {
-    /// The plan with this record, whatever it holds: one that is no tree is treated by every call as the empty plan.
-    pub fn from_record(rows: [u16; raw::PLAN_NUMBERS]) -> Plan {
+    /// The empty plan.
+    pub const fn new() -> Plan {
+        Plan {
+            rows: [0; raw::PLAN_NUMBERS],
+        }
+    }
+
+    /// The plan with this record, whatever it holds: one that is no tree ([`Plan::is_tree`]) is treated by every call
+    /// as the empty plan.
+    pub const fn from_record(rows: [u16; raw::PLAN_NUMBERS]) -> Plan {
         Plan { rows }
     }
 
-    /// The plan's record, to be stored or sent.
-    pub fn record(&self) -> &[u16; raw::PLAN_NUMBERS] {
+    /// The plan's record, to be stored or sent: for each line 11 rows of weight and edge.
+    pub const fn record(&self) -> &[u16; raw::PLAN_NUMBERS] {
         &self.rows
     }
 
+    /// Whether the record is a tree. The empty plan is one, and so is every plan that the calls made of one.
+    pub fn is_tree(&self) -> bool {
+        raw::is_tree(&self.rows) == 1
+    }
+
     /// Opens a line, and gives its start.
+    ///
+    /// # Errors
+    ///
+    /// [`Refusal::LineAbove63`], [`Refusal::PeriodOutOfRange`], [`Refusal::LineOpen`] and [`Refusal::NoCandidate`], in
+    /// this sequence of checks. The plan is then as found.
     pub fn open(&mut self, line: Line, period: Period) -> Result<Start, Refusal> {
         outcome(raw::open(&mut self.rows, line.0, period.0)).map(Start)
     }
 
     /// Closes a line.
+    ///
+    /// # Errors
+    ///
+    /// [`Refusal::LineAbove63`] and [`Refusal::LineNotOpen`]. The plan is then as found.
     pub fn close(&mut self, line: Line) -> Result<(), Refusal> {
         outcome(raw::close(&mut self.rows, line.0)).map(drop)
     }
 
     /// The owner of a round, `None` where it is idle.
     pub fn owner(&self, round: Round) -> Option<Line> {
-        line_or_idle(raw::owner(&self.rows, round.0))
+        let value = outcome(raw::owner(&self.rows, round.0));
+        line_or_idle(value.expect("owner has no refusal"))
     }
 
     /// Shows a line.
+    ///
+    /// # Errors
+    ///
+    /// [`Refusal::LineAbove63`] and [`Refusal::LineNotOpen`].
     pub fn show(&self, line: Line) -> Result<Shown, Refusal> {
         let mut shown = [0; raw::SHOWN_NUMBERS];
         outcome(raw::show(&self.rows, line.0, &mut shown))?;
-        let mut rows = [Row::default(); 11];
-        for (row, numbers) in rows.iter_mut().zip(shown[2..].chunks_exact(2)) {
-            *row = Row {
-                weight: numbers[0],
-                edge: numbers[1],
-            };
-        }
+        let [period, start, rows @ ..] = shown;
         Ok(Shown {
-            period: Period(shown[0].into()),
-            start: Start(shown[1].into()),
-            rows,
+            period: Period(period.into()),
+            start: Start(start.into()),
+            rows: array::from_fn(|row| Row {
+                weight: rows[2 * row],
+                edge: rows[2 * row + 1],
+            }),
         })
     }
 
-    /// Turns of a line in so many successive rounds: a figure that they do not exceed.
+    /// The open lines, in rising number.
+    pub fn lines(&self) -> impl Iterator<Item = OpenLine> + '_ {
+        (0..64).map(Line).filter_map(|line| {
+            let Shown { period, start, .. } = self.show(line).ok()?;
+            Some(OpenLine {
+                line,
+                period,
+                start,
+            })
+        })
+    }
+
+    /// Turns of a line in so many rounds one after the other: a figure that they do not exceed.
+    ///
+    /// # Errors
+    ///
+    /// [`Refusal::LineAbove63`] and [`Refusal::LineNotOpen`].
     pub fn turns(&self, line: Line, rounds: u32) -> Result<u64, Refusal> {
         outcome(raw::turns(&self.rows, line.0, rounds))
     }
 
-    /// Runs a list of orders, three bytes each, and writes two bytes for each: result 4 bits and start 12 bits.
-    pub fn run_list(&mut self, orders: &[u8], answers: &mut [u8]) -> Result<(), Refusal> {
-        outcome(raw::run_list(&mut self.rows, orders, answers)).map(drop)
+    /// Runs a list of orders, three bytes each, and gives what each order is answered with.
+    ///
+    /// ```
+    /// use gaplinte::{Answered, Call, Line, Period, Plan, Refusal, Start};
+    ///
+    /// let calls = [Call::Open(Line(1), Period(6)), Call::Close(Line(1)), Call::Close(Line(1))];
+    /// let orders = calls.map(|call| call.pack().unwrap());
+    /// let answers = Plan::new().run_list(orders.as_flattened())?;
+    /// let expected = [Ok(Answered::Booked(Start(0))), Ok(Answered::Closed), Err(Refusal::LineNotOpen)];
+    /// assert_eq!(answers, expected);
+    /// # Ok::<(), Refusal>(())
+    /// ```
+    ///
+    /// # Errors
+    ///
+    /// [`Refusal::ListLength`]. The plan is then as found. An order that is refused does not end the list.
+    pub fn run_list(&mut self, orders: &[u8]) -> Result<Vec<Result<Answered, Refusal>>, Refusal> {
+        let mut answers = vec![0; answers_length(orders.len())];
+        Ok(self.run_list_into(orders, &mut answers)?.collect())
+    }
+
+    /// Runs a list of orders as [`Plan::run_list`] does, with a lent buffer for the answers. Each has two bytes: 4 bits
+    /// of result, 0 or the number of the refusal, and 12 bits of start, 0 unless a line was opened. Later bytes of the
+    /// buffer are left alone.
+    ///
+    /// # Errors
+    ///
+    /// [`Refusal::ListLength`] and [`Refusal::AnswersTooShort`]. Plan and buffer are then as found.
+    pub fn run_list_into<'list>(
+        &mut self,
+        orders: &'list [u8],
+        answers: &'list mut [u8],
+    ) -> Result<Answers<'list>, Refusal> {
+        outcome(raw::run_list(&mut self.rows, orders, answers))?;
+        let written = &answers[..answers_length(orders.len())];
+        Ok(Answers::written(orders, written))
     }
 }
 
+/// The empty plan.
 impl Default for Plan {
     fn default() -> Plan {
-        Plan {
-            rows: [0; raw::PLAN_NUMBERS],
+        Plan::new()
+    }
+}
+
+/// The open lines, one below the other.
+impl fmt::Display for Plan {
+    fn fmt(&self, f: &mut fmt::Formatter<'_>) -> fmt::Result {
+        let lines: Vec<String> = self.lines().map(|line| line.to_string()).collect();
+        match (lines.is_empty(), self.is_tree()) {
+            (false, _) => f.write_str(&lines.join("\n")),
+            (true, true) => f.write_str("no open lines"),
+            (true, false) => f.write_str("no open lines: the record is no tree"),
         }
+    }
+}
+
+/// Such as "line 4: period 12, start 3".
+impl fmt::Display for OpenLine {
+    fn fmt(&self, f: &mut fmt::Formatter<'_>) -> fmt::Result {
+        let (line, period, start) = (self.line, self.period, self.start);
+        write!(f, "line {line}: period {period}, start {start}")
     }
 }
 
 /// The open lines, as `line: period@start`.
 impl fmt::Debug for Plan {
     fn fmt(&self, f: &mut fmt::Formatter<'_>) -> fmt::Result {
-        let lines =
-            (0..64).filter_map(|line| self.show(Line(line)).ok().map(|shown| (line, shown)));
+        let lines = self.lines();
         f.debug_map()
-            .entries(lines.map(|(line, shown)| {
-                (
-                    line,
-                    format_args!("{}@{}", shown.period.0, shown.start.0).to_string(),
-                )
-            }))
+            .entries(lines.map(|it| (it.line.0, format!("{}@{}", it.period, it.start))))
             .finish()
     }
 }

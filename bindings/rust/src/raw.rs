@@ -1,85 +1,48 @@
-//! The functions of the library as they are: numbers and slices in, one number out (see `include/gaplinte.h`). A slice
-//! of a wrong length is refused with 255.
+//! The functions of the library as they are (`include/gaplinte.h`): numbers and lent records in, one number out. It is
+//! the value, 0 or more, or minus the number of a refusal. A refused call leaves all that it was lent as found.
 
-// The only unsafe code: a foreign call can be made in no other way. Each call passes the pointers and lengths of slices
-// that Rust holds borrowed during it, which is what a slice is in the library's own calling convention. The library is
-// proved to stay within them for every length and every content, keeps no pointer, and always returns.
+/// The numbers of a plan record: 11 rows of weight and edge for each of the 64 lines.
+pub const PLAN_NUMBERS: usize = 1408;
+/// The numbers that show writes: period, start, and 11 rows of weight and edge.
+pub const SHOWN_NUMBERS: usize = 24;
+/// What stands for the line where a round is idle.
+pub const IDLE: i64 = 64;
+
+// The only unsafe code: a foreign function can be declared and called in no other way. A reference to an array is the
+// pointer that the library takes, and lasts as long as the call. The library is proved to stay within what it is lent
+// for every content, keeps no pointer, and always returns.
 #[allow(unsafe_code)]
 mod foreign {
-    extern "C" {
-        fn gaplinte_open(rows: *mut u16, count: usize, line: u64, period: u64) -> u64;
-        fn gaplinte_close(rows: *mut u16, count: usize, line: u64) -> u64;
-        fn gaplinte_owner(rows: *const u16, count: usize, round: u64) -> u64;
-        fn gaplinte_show(
-            rows: *const u16,
-            count: usize,
+    use super::{PLAN_NUMBERS, SHOWN_NUMBERS};
+
+    unsafe extern "C" {
+        pub safe fn gaplinte_open(rows: &mut [u16; PLAN_NUMBERS], line: u64, period: u64) -> i64;
+        pub safe fn gaplinte_close(rows: &mut [u16; PLAN_NUMBERS], line: u64) -> i64;
+        pub safe fn gaplinte_owner(rows: &[u16; PLAN_NUMBERS], round: u64) -> i64;
+        pub safe fn gaplinte_show(
+            rows: &[u16; PLAN_NUMBERS],
             line: u64,
-            shown: *mut u16,
-            shown_count: usize,
-        ) -> u64;
-        fn gaplinte_turns(rows: *const u16, count: usize, line: u64, rounds: u32) -> u64;
-        fn gaplinte_walk(
-            rows: *const u16,
-            count: usize,
-            place: *mut u64,
-            place_count: usize,
-        ) -> u64;
+            shown: &mut [u16; SHOWN_NUMBERS],
+        ) -> i64;
+        pub safe fn gaplinte_turns(rows: &[u16; PLAN_NUMBERS], line: u64, rounds: u32) -> i64;
+        pub safe fn gaplinte_walk(rows: &[u16; PLAN_NUMBERS], place: &mut [u64; 2]) -> i64;
         fn gaplinte_run_list(
-            rows: *mut u16,
-            count: usize,
+            rows: &mut [u16; PLAN_NUMBERS],
             orders: *const u8,
             order_bytes: usize,
             answers: *mut u8,
             answer_bytes: usize,
-        ) -> u64;
-        fn gaplinte_pack(kind: u64, line: u64, period: u64, order: *mut u8, bytes: usize) -> u64;
-        fn gaplinte_read(order: *const u8, bytes: usize, fields: *mut u16, count: usize) -> u64;
+        ) -> i64;
+        pub safe fn gaplinte_pack(kind: u64, line: u64, period: u64, order: &mut [u8; 3]) -> i64;
+        pub safe fn gaplinte_read(order: &[u8; 3], call: &mut [u16; 3]) -> i64;
+        pub safe fn gaplinte_is_tree(rows: &[u16; PLAN_NUMBERS]) -> i64;
     }
 
-    /// Opens a line; the value is its start.
-    pub fn open(rows: &mut [u16], line: u64, period: u64) -> u64 {
-        unsafe { gaplinte_open(rows.as_mut_ptr(), rows.len(), line, period) }
-    }
-
-    /// Closes a line; the value is 0.
-    pub fn close(rows: &mut [u16], line: u64) -> u64 {
-        unsafe { gaplinte_close(rows.as_mut_ptr(), rows.len(), line) }
-    }
-
-    /// The owner of a round; the value is its line, or 64 where the round is idle.
-    pub fn owner(rows: &[u16], round: u64) -> u64 {
-        unsafe { gaplinte_owner(rows.as_ptr(), rows.len(), round) }
-    }
-
-    /// Shows a line: 24 numbers are written; the value is 0.
-    pub fn show(rows: &[u16], line: u64, shown: &mut [u16]) -> u64 {
-        unsafe {
-            gaplinte_show(
-                rows.as_ptr(),
-                rows.len(),
-                line,
-                shown.as_mut_ptr(),
-                shown.len(),
-            )
-        }
-    }
-
-    /// Turns of a line in so many rounds.
-    pub fn turns(rows: &[u16], line: u64, rounds: u32) -> u64 {
-        unsafe { gaplinte_turns(rows.as_ptr(), rows.len(), line, rounds) }
-    }
-
-    /// The walker on a place of two numbers; the value is the line, or 64 where the round is idle.
-    pub fn walk(rows: &[u16], place: &mut [u64]) -> u64 {
-        unsafe { gaplinte_walk(rows.as_ptr(), rows.len(), place.as_mut_ptr(), place.len()) }
-    }
-
-    /// Runs a list of orders; the value is 0.
-    pub fn run_list(rows: &mut [u16], orders: &[u8], answers: &mut [u8]) -> u64 {
+    /// Not safe as it is declared, since each slice is a pointer and a length: here they are of one slice.
+    pub fn run_list(rows: &mut [u16; PLAN_NUMBERS], orders: &[u8], answers: &mut [u8]) -> i64 {
         unsafe {
             gaplinte_run_list(
-                rows.as_mut_ptr(),
-                rows.len(),
+                rows,
                 orders.as_ptr(),
                 orders.len(),
                 answers.as_mut_ptr(),
@@ -87,30 +50,64 @@ mod foreign {
             )
         }
     }
-
-    /// Packs an order into three bytes; the value is 0.
-    pub fn pack(kind: u64, line: u64, period: u64, order: &mut [u8]) -> u64 {
-        unsafe { gaplinte_pack(kind, line, period, order.as_mut_ptr(), order.len()) }
-    }
-
-    /// Reads three bytes: kind, line and period are written; the value is 0.
-    pub fn read(order: &[u8], fields: &mut [u16]) -> u64 {
-        unsafe {
-            gaplinte_read(
-                order.as_ptr(),
-                order.len(),
-                fields.as_mut_ptr(),
-                fields.len(),
-            )
-        }
-    }
 }
 
-pub use foreign::{close, open, owner, pack, read, run_list, show, turns, walk};
+/// Opens a line; the value is its start. Refused with 1, 2, 3 or 5.
+#[must_use]
+pub fn open(rows: &mut [u16; PLAN_NUMBERS], line: u64, period: u64) -> i64 {
+    foreign::gaplinte_open(rows, line, period)
+}
 
-/// The numbers of a plan record.
-pub const PLAN_NUMBERS: usize = 1408;
-/// The numbers that show writes: period, start, and 11 rows of weight and edge.
-pub const SHOWN_NUMBERS: usize = 24;
-/// The line that stands for an idle round.
-pub const IDLE: u64 = 64;
+/// Closes a line; the value is 0. Refused with 1 or 4.
+#[must_use]
+pub fn close(rows: &mut [u16; PLAN_NUMBERS], line: u64) -> i64 {
+    foreign::gaplinte_close(rows, line)
+}
+
+/// The owner of a round; the value is its line, or [`IDLE`]. Never refused.
+#[must_use]
+pub fn owner(rows: &[u16; PLAN_NUMBERS], round: u64) -> i64 {
+    foreign::gaplinte_owner(rows, round)
+}
+
+/// Shows a line: its period, its start and its path are written; the value is 0. Refused with 1 or 4.
+#[must_use]
+pub fn show(rows: &[u16; PLAN_NUMBERS], line: u64, shown: &mut [u16; SHOWN_NUMBERS]) -> i64 {
+    foreign::gaplinte_show(rows, line, shown)
+}
+
+/// Turns of a line in so many rounds; the value is a figure that they do not exceed. Refused with 1 or 4.
+#[must_use]
+pub fn turns(rows: &[u16; PLAN_NUMBERS], line: u64, rounds: u32) -> i64 {
+    foreign::gaplinte_turns(rows, line, rounds)
+}
+
+/// The walker on a place, which is the next round and the count; the value is the line, or [`IDLE`]. Refused with 9.
+#[must_use]
+pub fn walk(rows: &[u16; PLAN_NUMBERS], place: &mut [u64; 2]) -> i64 {
+    foreign::gaplinte_walk(rows, place)
+}
+
+/// Runs a list of orders, and writes two bytes for each; the value is 0. Refused with 7 or 8.
+#[must_use]
+pub fn run_list(rows: &mut [u16; PLAN_NUMBERS], orders: &[u8], answers: &mut [u8]) -> i64 {
+    foreign::run_list(rows, orders, answers)
+}
+
+/// Packs an order; the value is 0. Refused with 6, 1 or 2.
+#[must_use]
+pub fn pack(kind: u64, line: u64, period: u64, order: &mut [u8; 3]) -> i64 {
+    foreign::gaplinte_pack(kind, line, period, order)
+}
+
+/// Reads an order: kind, line and period are written; the value is 0. Refused with 6.
+#[must_use]
+pub fn read(order: &[u8; 3], call: &mut [u16; 3]) -> i64 {
+    foreign::gaplinte_read(order, call)
+}
+
+/// Whether a record is a tree; the value is 1 or 0. Never refused.
+#[must_use]
+pub fn is_tree(rows: &[u16; PLAN_NUMBERS]) -> i64 {
+    foreign::gaplinte_is_tree(rows)
+}

@@ -24,12 +24,11 @@ pub enum Refusal {
     AnswersTooShort = 8,
     /// Walker with either number at 2^64 - 1.
     WalkerAtEnd = 9,
-    /// A slice of a wrong length. Only the functions of [`crate::raw`] can be refused with it.
-    WrongLength = 255,
 }
 
 impl Refusal {
-    const ALL: [Refusal; 10] = [
+    /// Every refusal, in rising number.
+    pub const ALL: [Refusal; 9] = [
         Refusal::LineAbove63,
         Refusal::PeriodOutOfRange,
         Refusal::LineOpen,
@@ -39,31 +38,52 @@ impl Refusal {
         Refusal::ListLength,
         Refusal::AnswersTooShort,
         Refusal::WalkerAtEnd,
-        Refusal::WrongLength,
     ];
+
+    /// The refusal with this number, 1 to 9.
+    pub fn numbered(number: u8) -> Option<Refusal> {
+        Refusal::ALL
+            .into_iter()
+            .find(|refusal| refusal.number() == number)
+    }
 
     /// Document 01's number.
     pub fn number(self) -> u8 {
         self as u8
     }
+
+    /// What it means, in the words of `include/gaplinte.h`.
+    pub fn text(self) -> &'static str {
+        match self {
+            Refusal::LineAbove63 => "the line is above 63",
+            Refusal::PeriodOutOfRange => "the period is not 1 to 4095",
+            Refusal::LineOpen => "the line is open already",
+            Refusal::LineNotOpen => "the line is not open",
+            Refusal::NoCandidate => "no node of the plan is a candidate for the period",
+            Refusal::NoOrder => {
+                "no order: the kind is above 1, a close has a period, or one of the last four bits is 1"
+            }
+            Refusal::ListLength => "the list is longer than 65535 bytes or ends inside an order",
+            Refusal::AnswersTooShort => "the buffer has fewer than two bytes for each order",
+            Refusal::WalkerAtEnd => "the walker's next round or count is 2^64 - 1",
+        }
+    }
 }
 
+/// A sentence with the number, such as "refused with 4: the line is not open".
 impl fmt::Display for Refusal {
     fn fmt(&self, f: &mut fmt::Formatter<'_>) -> fmt::Result {
-        write!(f, "refused with {}", self.number())
+        write!(f, "refused with {}: {}", self.number(), self.text())
     }
 }
 
 impl std::error::Error for Refusal {}
 
-/// What an answer of the library tells: a value below 2^56, or a refusal.
-pub fn outcome(answer: u64) -> Result<u64, Refusal> {
-    let number = answer >> 56;
-    if number == 0 {
-        return Ok(answer);
-    }
-    let refusal = Refusal::ALL
-        .into_iter()
-        .find(|refusal| u64::from(refusal.number()) == number);
-    Err(refusal.expect("the library refuses with no other number"))
+/// What an answer of the library tells: a value, or a refusal.
+pub(crate) fn outcome(answer: i64) -> Result<u64, Refusal> {
+    u64::try_from(answer).map_err(|_| {
+        let number = u8::try_from(answer.unsigned_abs()).ok();
+        let refusal = number.and_then(Refusal::numbered);
+        refusal.expect("the library refuses with no other number")
+    })
 }

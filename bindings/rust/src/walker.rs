@@ -5,15 +5,21 @@ use crate::raw;
 use crate::refusal::outcome;
 use crate::{Line, Plan, Refusal, Round};
 
-/// A walker's place: the next round, and how many of the rounds seen were owned. `Walker::default()` starts at round 0.
-#[derive(Clone, Copy, Debug, Default, PartialEq, Eq)]
+/// A walker's place. `Walker::default()` starts at round 0.
+#[derive(Clone, Copy, Debug, Default, PartialEq, Eq, Hash)]
 pub struct Walker {
+    /// The next round.
     pub next: Round,
+    /// How many of the rounds seen were owned.
     pub owned: u64,
 }
 
 impl Walker {
-    /// The owner of the next round, `None` where it is idle. The place moves on, unless the call is refused.
+    /// The owner of the next round, `None` where it is idle. The place moves on.
+    ///
+    /// # Errors
+    ///
+    /// [`Refusal::WalkerAtEnd`]. The place is then as found.
     pub fn walk(&mut self, plan: &Plan) -> Result<Option<Line>, Refusal> {
         let mut place = [self.next.0, self.owned];
         let answer = raw::walk(plan.record(), &mut place);

@@ -1,11 +1,11 @@
 //! The marked cases of document 01, through the bindings.
 
-use gaplinte::{Line, Period, Plan, Refusal, Round, Row, Start};
+use gaplinte::{Answered, Answers, Line, OpenLine, Period, Plan, Refusal, Round, Row, Start};
 
 /// Opens lines 1, 2, 3 .. in turn, each with a period, and compares what each open gives: a start, or a refusal. A
 /// refused open leaves the plan as found.
 fn opened(periods: &[(u64, Result<u64, Refusal>)]) -> Plan {
-    let mut plan = Plan::default();
+    let mut plan = Plan::new();
     for (line, &(period, expected)) in (1..).zip(periods) {
         let before = plan.clone();
         let answer = plan.open(Line(line), Period(period));
@@ -21,6 +21,9 @@ fn owners_fit(plan: &Plan) {
     let open: Vec<_> = (0..64)
         .filter_map(|line| Some((Line(line), plan.show(Line(line)).ok()?)))
         .collect();
+    let lines = plan.lines().map(|it| (it.line, it.period, it.start));
+    let shown = open.iter().map(|&(line, it)| (line, it.period, it.start));
+    assert!(lines.eq(shown));
     for round in (0..5000).chain(u64::MAX - 5000..=u64::MAX) {
         let fitting: Vec<_> = open
             .iter()
@@ -60,6 +63,9 @@ fn case_a() {
         format!("{plan:?}"),
         r#"{1: "4@0", 2: "6@1", 3: "8@2", 5: "12@3"}"#
     );
+    let lines = "line 1: period 4, start 0\nline 2: period 6, start 1\n\
+                 line 3: period 8, start 2\nline 5: period 12, start 3";
+    assert_eq!(plan.to_string(), lines);
 }
 
 #[test]
@@ -90,7 +96,7 @@ fn case_e() {
 
 #[test]
 fn case_f() {
-    let mut plan = Plan::default();
+    let mut plan = Plan::new();
     for line in 1..=11 {
         plan.open(Line(line), Period(1 << line)).unwrap();
     }
@@ -111,7 +117,7 @@ fn case_g() {
 
 #[test]
 fn case_h() {
-    let mut plan = Plan::default();
+    let mut plan = Plan::new();
     assert_eq!(plan.open(Line(63), Period(5)), Ok(Start(0)));
     assert_eq!(plan.open(Line(64), Period(5)), Err(Refusal::LineAbove63));
 }
@@ -123,8 +129,20 @@ fn case_i() {
         0x42, 0x00, 0x00,
     ];
     let mut answers = [0xee; 14];
-    let mut plan = Plan::default();
-    assert_eq!(plan.run_list(&orders, &mut answers), Ok(()));
+    let mut plan = Plan::new();
+    let told = [
+        Ok(Answered::Booked(Start(0))),
+        Ok(Answered::Booked(Start(1))),
+        Err(Refusal::NoCandidate),
+        Ok(Answered::Closed),
+        Err(Refusal::NoCandidate),
+        Err(Refusal::LineNotOpen),
+    ];
+    let run = plan.run_list_into(&orders, &mut answers).unwrap();
+    assert_eq!(run.len(), 6);
+    assert_eq!(run.collect::<Vec<_>>(), told);
+    assert_eq!(Plan::new().run_list(&orders), Ok(told.to_vec()));
+    assert!(Answers::of(&orders, &answers).unwrap().eq(told));
     // Results 0, 0, 5, 0, 5, 4 and starts 0, 1; the bytes beyond are untouched.
     let expected = [
         0x00, 0x00, 0x00, 0x01, 0x50, 0x00, 0x00, 0x00, 0x50, 0x00, 0x40, 0x00, 0xee, 0xee,
@@ -143,5 +161,37 @@ fn an_emptied_plan_is_the_fresh_one() {
         assert_eq!(plan.close(Line(line)), Ok(()));
         owners_fit(&plan);
     }
-    assert_eq!(plan, Plan::default());
+    assert_eq!(plan, Plan::new());
+}
+
+#[test]
+fn the_open_lines() {
+    let mut plan = Plan::default();
+    assert_eq!(plan, Plan::new());
+    assert_eq!(plan.lines().next(), None);
+    assert_eq!(plan.to_string(), "no open lines");
+    for (line, period) in [(63, 12), (0, 4), (7, 8)] {
+        plan.open(Line(line), Period(period)).unwrap();
+    }
+    let open = [(0, 4, 1), (7, 8, 2), (63, 12, 0)].map(|(line, period, start)| OpenLine {
+        line: Line(line),
+        period: Period(period),
+        start: Start(start),
+    });
+    assert!(plan.lines().eq(open));
+    plan.close(Line(7)).unwrap();
+    assert!(plan.lines().eq([open[0], open[2]]));
+    assert_eq!(open[2].to_string(), "line 63: period 12, start 0");
+}
+
+#[test]
+fn numbers_are_displayed() {
+    assert_eq!(Line(63).to_string(), "63");
+    assert_eq!(Period(4095).to_string(), "4095");
+    assert_eq!(Start(0).to_string(), "0");
+    assert_eq!(Round(u64::MAX).to_string(), "18446744073709551615");
+    assert_eq!(
+        format!("{:>4}|{:<4}|{:03}", Line(7), Start(12), Period(5)),
+        "   7|12  |005"
+    );
 }

@@ -1,12 +1,12 @@
 //! A record that is no tree, through every call: it is treated as the empty plan, and a refused call leaves it as
 //! found.
 
-use gaplinte::{Line, Period, Plan, Refusal, Round, Start, Walker};
+use gaplinte::{Answered, Line, Period, Plan, Refusal, Round, Start, Walker};
 
 /// Records that are no tree: a number out of range, an edge not below its weight, a row after an unused one, two lines
 /// at one place, an edge without a weight, a line above another, every number alike.
 fn damaged() -> Vec<Plan> {
-    let mut booked = Plan::default();
+    let mut booked = Plan::new();
     booked.open(Line(3), Period(12)).unwrap();
     let with = |numbers: &[(usize, u16)]| {
         let mut record = *booked.record();
@@ -31,6 +31,9 @@ fn damaged() -> Vec<Plan> {
 #[test]
 fn asked() {
     for plan in damaged() {
+        assert!(!plan.is_tree());
+        assert_eq!(plan.lines().next(), None);
+        assert_eq!(plan.to_string(), "no open lines: the record is no tree");
         for round in [0, 1, 12, u64::MAX] {
             assert_eq!(plan.owner(Round(round)), None);
         }
@@ -47,7 +50,7 @@ fn asked() {
 
 #[test]
 fn changed() {
-    let mut fresh = Plan::default();
+    let mut fresh = Plan::new();
     assert_eq!(fresh.open(Line(3), Period(12)), Ok(Start(0)));
     for found in damaged() {
         let mut plan = found.clone();
@@ -61,24 +64,28 @@ fn changed() {
         assert_eq!(plan, found);
         assert_eq!(plan.open(Line(3), Period(12)), Ok(Start(0)));
         assert_eq!(plan, fresh);
+        assert!(plan.is_tree());
     }
 }
 
 #[test]
 fn lists() {
-    let mut fresh = Plan::default();
+    let mut fresh = Plan::new();
     assert_eq!(fresh.open(Line(3), Period(12)), Ok(Start(0)));
     for found in damaged() {
         let mut plan = found.clone();
         let mut answers = [0xee; 4];
         // An empty list, and one whose only order is refused: nothing was carried out, and the record is as found.
-        assert_eq!(plan.run_list(&[], &mut answers), Ok(()));
+        assert_eq!(plan.run_list(&[]), Ok(vec![]));
         assert_eq!(plan, found);
-        assert_eq!(plan.run_list(&[0x43, 0x00, 0x00], &mut answers), Ok(()));
+        let refused = plan.run_list_into(&[0x43, 0x00, 0x00], &mut answers);
+        assert!(refused.unwrap().eq([Err(Refusal::LineNotOpen)]));
         assert_eq!(answers, [0x40, 0x00, 0xee, 0xee]);
         assert_eq!(plan, found);
         let orders = [0x43, 0x00, 0x00, 0x03, 0x00, 0xc0];
-        assert_eq!(plan.run_list(&orders, &mut answers), Ok(()));
+        let booked = plan.run_list_into(&orders, &mut answers);
+        let told = [Err(Refusal::LineNotOpen), Ok(Answered::Booked(Start(0)))];
+        assert!(booked.unwrap().eq(told));
         assert_eq!(answers, [0x40, 0x00, 0x00, 0x00]);
         assert_eq!(plan, fresh);
     }

@@ -1,10 +1,12 @@
 //! The same calls put to the second program, which is written from document 01 alone: every answer agrees.
 
-use gaplinte::{pack, read, Call, Line, Period, Plan, Refusal, Round, Walker};
+use gaplinte::{raw, Answered, Answers, Call, Line, Period, Plan, Refusal, Round, Start, Walker};
 use second::orders::{self, Order};
 use second::random::Random;
+use second::record::{drawn_write, Held, Record};
 use second::shapes::Shape;
 use second::{ask, lists, tree, walker};
+use std::array;
 
 const LISTS_OF_A_SHAPE: u64 = 100;
 const ROUNDS: u64 = 200;
@@ -45,12 +47,23 @@ fn rounds(random: &mut Random) -> Vec<u64> {
     rounds
 }
 
-/// Owner, show, turns and the walker on two plans that should have the same tree.
+/// The lines that each of two plans has open, with period and start.
+fn same_lines(plan: &Plan, other: &tree::Plan) {
+    let lines = plan.lines().map(|it| (it.line.0, it.period.0, it.start.0));
+    let expected = (0..64).filter_map(|line| {
+        let shown = ask::show(other, line).ok()?;
+        Some((line, shown.period.0.into(), shown.start.0.into()))
+    });
+    assert!(lines.eq(expected));
+}
+
+/// Owner, show, turns, the open lines and the walker on two plans that should have the same tree.
 fn ask_both(plan: &Plan, other: &tree::Plan, random: &mut Random) {
     for round in rounds(random) {
         let owner = ask::owner(other, round).map(|line| Line(line.into()));
         assert_eq!(plan.owner(Round(round)), owner, "round {round}");
     }
+    same_lines(plan, other);
     for line in 0..66 {
         let shown = numbered(plan.show(Line(line))).map(|shown| {
             let rows = shown.rows.map(|row| (row.weight, row.edge));
@@ -89,7 +102,7 @@ fn ask_both(plan: &Plan, other: &tree::Plan, random: &mut Random) {
 fn calls() {
     let mut random = Random::new(12);
     for list in lists() {
-        let mut plan = Plan::default();
+        let mut plan = Plan::new();
         let mut other = tree::Plan::empty();
         for order in list.chunks_exact(3) {
             let wide = number_about(4096, &mut random);
@@ -113,23 +126,75 @@ fn calls() {
     }
 }
 
+/// What the second program tells of each order of a list.
+fn told_by_second(plan: &mut tree::Plan, list: &[u8]) -> Vec<Result<Answered, u8>> {
+    let (orders, rest) = list.as_chunks();
+    assert!(rest.is_empty());
+    let told = orders.iter().map(|&order| {
+        let answer = numbered_second(orders::run_order(plan, order))?;
+        Ok(answer.map_or(Answered::Closed, |start| {
+            Answered::Booked(Start(start.0.into()))
+        }))
+    });
+    told.collect()
+}
+
 /// Lists, run whole on the empty plan and once more on the plan that they left.
 #[test]
 fn order_lists() {
     let mut random = Random::new(13);
     for list in lists() {
-        let mut plan = Plan::default();
+        let mut plan = Plan::new();
         let mut other = tree::Plan::empty();
         for _ in 0..2 {
+            let told = told_by_second(&mut other.clone(), &list);
+            let vector = plan.clone().run_list(&list).unwrap();
+            assert!(vector.into_iter().map(numbered).eq(told.clone()));
+
             let room = 2 * (list.len() / 3) + random.below(4) as usize;
             let mut answers = vec![0xee; room];
             let mut expected = vec![0xee; room];
-            assert_eq!(plan.run_list(&list, &mut answers), Ok(()));
+            let run = plan.run_list_into(&list, &mut answers).unwrap();
+            assert!(run.map(numbered).eq(told.clone()));
             orders::run(&mut other, &list, &mut expected).unwrap();
             assert_eq!(answers, expected);
+            let decoded = Answers::of(&list, &answers).unwrap();
+            assert!(decoded.map(numbered).eq(told));
         }
         ask_both(&plan, &other, &mut random);
     }
+}
+
+fn numbers(record: &Record) -> [u16; raw::PLAN_NUMBERS] {
+    array::from_fn(|place| record.number(place))
+}
+
+/// Records with numbers written over: no tree, the same tree or another one, and then calls on them.
+#[test]
+fn damaged_records() {
+    let mut random = Random::new(15);
+    let mut seen = [0; 2];
+    for list in lists() {
+        let mut held = Held::empty();
+        held.run(&list, &mut vec![0; list.len()]).unwrap();
+        for _ in 0..8 {
+            let (place, number) = drawn_write(&held.record, &mut random);
+            held.write(place, number);
+            let mut plan = Plan::from_record(numbers(&held.record));
+            assert_eq!(plan.is_tree(), held.record.tree().is_some());
+            seen[usize::from(plan.is_tree())] += 1;
+            same_lines(&plan, &held.plan);
+
+            let (line, period) = (random.below(64), random.below(4096));
+            let answer = plan.close(Line(line));
+            assert_eq!(numbered(answer), numbered_second(held.close(line)));
+            let answer = plan.open(Line(line), Period(period)).map(|start| start.0);
+            let expected = held.open(line, period).map(|start| start.0.into());
+            assert_eq!(numbered(answer), numbered_second(expected));
+            assert_eq!(*plan.record(), numbers(&held.record));
+        }
+    }
+    assert!(seen.iter().all(|&count| count > 100), "{seen:?}");
 }
 
 #[test]
@@ -142,8 +207,18 @@ fn packing_and_reading() {
             0 => 0,
             _ => number_about(4096, &mut random),
         };
-        let packed = numbered(pack(kind, Line(line), Period(period)));
-        assert_eq!(packed, numbered_second(orders::pack(kind, line, period)));
+        let expected = numbered_second(orders::pack(kind, line, period));
+        let mut order = [0xee; 3];
+        match raw::pack(kind, line, period, &mut order) {
+            0 => assert_eq!(Ok(order), expected),
+            refusal => assert_eq!((-refusal, order), (expected.unwrap_err().into(), [0xee; 3])),
+        }
+        if kind == 0 {
+            let call = Call::Open(Line(line), Period(period));
+            assert_eq!(numbered(call.pack()), expected);
+        } else if kind == 1 && period == 0 {
+            assert_eq!(numbered(Call::Close(Line(line)).pack()), expected);
+        }
 
         let [first, second, third, ..] = random.draw().to_be_bytes();
         let order = match random.below(2) {
@@ -154,6 +229,6 @@ fn packing_and_reading() {
             Order::Open { line, period } => Call::Open(Line(line.into()), Period(period.into())),
             Order::Close { line } => Call::Close(Line(line.into())),
         });
-        assert_eq!(numbered(read(order)), numbered_second(expected));
+        assert_eq!(numbered(Call::read(order)), numbered_second(expected));
     }
 }

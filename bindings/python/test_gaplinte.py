@@ -1,0 +1,305 @@
+"""The calls of gaplinte.py, with answers that document 01 gives."""
+
+import array
+import copy
+import doctest
+import os
+import pathlib
+import re
+import shutil
+import subprocess
+import sys
+import tempfile
+import threading
+import unittest
+
+import gaplinte
+from gaplinte import KIND_CLOSE, KIND_OPEN, Answer, Call, OpenLine, Plan, Refused, Row, Walker
+
+FOLDER = pathlib.Path(__file__).resolve().parent
+REPOSITORY = FOLDER.parents[1]
+LAST = 2**64 - 1
+
+
+def load_tests(loader, tests, pattern):
+    tests.addTests(doctest.DocTestSuite(gaplinte))
+    return tests
+
+
+class Case(unittest.TestCase):
+    def refused(self, number, call, *arguments):
+        with self.assertRaises(Refused) as caught:
+            call(*arguments)
+        self.assertEqual(caught.exception.number, number)
+
+    def opened(self, *periods):
+        """Opens lines 1, 2, 3 .. with periods; p@s is p with start s, p!n is p refused with n."""
+        plan = Plan()
+        for line, (period, mark, number) in enumerate((re.split("([@!])", text) for text in periods), 1):
+            before = copy.copy(plan)
+            if mark == "@":
+                self.assertEqual(plan.open(line, int(period)), int(number))
+            else:
+                self.refused(int(number), plan.open, line, int(period))
+                self.assertEqual(plan, before)
+        return plan
+
+
+class MarkedCases(Case):
+    def test_a(self):
+        plan = self.opened("4@0", "6@1", "8@2", "2!5", "12@3")
+        self.assertEqual([plan.owner(round) for round in (7, 10, 9)], [2, 3, None])
+        shown = plan.show(5)
+        self.assertEqual((shown.period, shown.start), (12, 3))
+        self.assertEqual(shown.path, ((2, 1), (3, 1), (2, 0)) + ((0, 0),) * 8)
+        self.assertEqual(shown.path[1], Row(weight=3, edge=1))
+        self.assertEqual(plan.turns(5, 100), 9)
+        self.assertEqual(plan.lines(), [(1, 4, 0), (2, 6, 1), (3, 8, 2), (5, 12, 3)])
+        self.assertEqual(plan.lines()[3], OpenLine(line=5, period=12, start=3))
+
+    def test_b_to_h(self):
+        self.opened("4@0", "4@1", "2!5")
+        self.opened("6@0", "12@1", "12@7")
+        self.opened("1@0", "1!5", "4095!5")
+        self.opened("2@0", "3!5")
+        powers = [f"{2**power}@{2**(power - 1) - 1}" for power in range(1, 12)]
+        self.assertEqual(self.opened(*powers).show(11).path, ((2, 1),) * 10 + ((2, 0),))
+        self.opened("4095@0", "4096!2", "0!2")
+        plan = Plan()
+        self.assertEqual(plan.open(63, 5), 0)
+        self.refused(1, plan.open, 64, 5)
+
+    def test_i(self):
+        orders = (REPOSITORY / "examples/case-i.orders").read_bytes()
+        plan = Plan()
+        answers = [(0, 0), (0, 1), (5, None), (0, None), (5, None), (4, None)]
+        self.assertEqual(plan.run_list(orders), answers)
+        self.assertEqual(plan.lines(), [(1, 6, 0)])
+
+    def test_an_emptied_plan_is_the_fresh_one(self):
+        plan = self.opened("4@0", "6@1", "8@2")
+        for line in (1, 2, 3):
+            self.assertIsNone(plan.close(line))
+        self.assertEqual(plan, Plan())
+        self.assertEqual(plan.lines(), [])
+
+
+class Refusals(Case):
+    def test_each_call(self):
+        plan = self.opened("4@0")
+        before = copy.copy(plan)
+        for line in (64, 256, 2**32, LAST):
+            self.refused(1, plan.open, line, 4)
+            self.refused(1, plan.close, line)
+            self.refused(1, plan.show, line)
+            self.refused(1, plan.turns, line, 9)
+            self.refused(1, gaplinte.pack, KIND_CLOSE, line)
+        for period in (4096, 65548, 2**32 + 4, LAST):
+            self.refused(2, plan.open, 2, period)
+            self.refused(2, gaplinte.pack, KIND_OPEN, 2, period)
+        self.refused(2, plan.open, 2, 0)
+        self.refused(3, plan.open, 1, 4)
+        self.refused(4, plan.close, 2)
+        self.refused(4, plan.show, 2)
+        self.refused(4, plan.turns, 2, 9)
+        self.refused(5, plan.open, 2, 3)
+        self.refused(6, gaplinte.pack, 2, 0, 0)
+        self.refused(6, gaplinte.pack, KIND_CLOSE, 0, 1)
+        self.refused(6, gaplinte.read, b"\x80\0\0")
+        self.refused(7, plan.run_list, b"\0")
+        self.refused(7, plan.run_list, bytes(65538))
+        self.refused(9, Walker(LAST, 0).walk, plan)
+        self.assertEqual(plan, before)
+
+    def test_texts_are_those_of_the_header(self):
+        header = (REPOSITORY / "include/gaplinte.h").read_text()
+        texts = re.findall(r'return "(.*)";', header)
+        self.assertEqual(texts[0], "not refused")
+        self.assertEqual([Refused(number).text for number in range(1, 10)], texts[1:10])
+        self.assertEqual(len(set(texts)), len(texts))
+        self.assertEqual(str(Refused(4)), "refused with 4: the line is not open")
+
+
+class Numbers(Case):
+    def test_none_is_cut(self):
+        plan = self.opened("4@0")
+        before = copy.copy(plan)
+        for number in (-1, 2**64, 2**64 + 1, -(2**64) + 2, 10**5000):
+            for call in (
+                lambda: plan.open(number, 8),
+                lambda: plan.open(2, number),
+                lambda: plan.close(number),
+                lambda: plan.owner(number),
+                lambda: plan.show(number),
+                lambda: plan.turns(number, 9),
+                lambda: plan.turns(1, number),
+                lambda: gaplinte.pack(number, 1, 0),
+                lambda: gaplinte.pack(0, number, 0),
+                lambda: gaplinte.pack(0, 1, number),
+                lambda: Walker(number),
+                lambda: Walker(0, number),
+            ):
+                self.assertRaises(OverflowError, call)
+        self.assertRaises(OverflowError, plan.turns, 1, 2**32)
+        walker = Walker()
+        walker.next = 2**64
+        self.assertRaises(OverflowError, walker.walk, plan)
+        self.assertEqual((walker.next, walker.owned), (2**64, 0))
+        self.assertEqual(plan, before)
+
+    def test_the_largest(self):
+        plan = self.opened("1@0")
+        self.assertEqual(plan.owner(LAST), 1)
+        self.assertEqual(plan.turns(1, 2**32 - 1), 2**32)
+
+    def test_whole_numbers_only(self):
+        for number in (1.0, "1", None, b"\1"):
+            self.assertRaises(TypeError, Plan().open, number, 4)
+            self.assertRaises(TypeError, Plan().open, 1, number)
+            self.assertRaises(TypeError, Plan().owner, number)
+
+
+class Records(Case):
+    def test_bytes_there_and_back(self):
+        plan = self.opened("4@0", "6@1")
+        record = bytes(plan)
+        self.assertEqual(len(record), 2816)
+        numbers = memoryview(record).cast("H")
+        self.assertEqual(numbers[22 * 2 : 22 * 2 + 5].tolist(), [2, 1, 3, 0, 0])
+        self.assertEqual(Plan.from_bytes(record), plan)
+        self.assertEqual(Plan.from_bytes(array.array("H", numbers)), plan)
+        self.assertNotEqual(plan, Plan())
+        self.assertNotEqual(plan, record)
+        for wrong in (b"", record[1:], record + b"\0"):
+            self.assertRaises(ValueError, Plan.from_bytes, wrong)
+        self.assertRaises(TypeError, Plan.from_bytes, 2816)
+
+    def test_a_copy_has_its_own_record(self):
+        plan = self.opened("4@0")
+        for copied in (copy.copy(plan), copy.deepcopy(plan)):
+            copied.close(1)
+            self.assertEqual((plan.lines(), copied.lines()), ([(1, 4, 0)], []))
+
+    def test_a_record_that_is_no_tree(self):
+        booked = Plan()
+        self.assertEqual(booked.open(3, 12), 0)
+        self.assertTrue(Plan().is_tree() and booked.is_tree())
+        numbers = array.array("H", bytes(booked))
+        numbers[22 * 3 + 1] = 12
+        plan = Plan.from_bytes(numbers)
+        self.assertFalse(plan.is_tree())
+        self.assertIsNone(plan.owner(0))
+        self.assertEqual(plan.lines(), [])
+        for call in (plan.show, plan.close, lambda line: plan.turns(line, 7)):
+            self.refused(4, call, 3)
+        self.refused(2, plan.open, 3, 0)
+        self.assertEqual(bytes(plan), numbers.tobytes())
+        self.assertEqual(plan.open(3, 12), 0)
+        self.assertEqual(plan, booked)
+
+
+class Lists(Case):
+    def test_opens_and_closes_are_told_apart(self):
+        orders = [(KIND_OPEN, 1, 6), (KIND_CLOSE, 1), (KIND_CLOSE, 1), (KIND_OPEN, 1, 0)]
+        orders = b"".join(gaplinte.pack(*order) for order in orders) + b"\0\0\1"
+        answers = [(0, 0), (0, None), (4, None), (2, None), (6, None)]
+        self.assertEqual(Plan().run_list(orders), answers)
+        self.assertEqual(Plan().run_list(bytearray(orders)), answers)
+        self.assertEqual(Plan().run_list(orders)[0], Answer(result=0, start=0))
+
+    def test_starts_of_12_bits(self):
+        plan = Plan()
+        orders = b"".join(gaplinte.pack(KIND_OPEN, power, 2**power) for power in range(1, 12))
+        starts = [answer.start for answer in plan.run_list(orders)]
+        self.assertEqual(starts, [2 ** (power - 1) - 1 for power in range(1, 12)])
+
+    def test_shortest_and_longest(self):
+        plan = Plan()
+        self.assertEqual(plan.run_list(b""), [])
+        self.assertEqual(plan, Plan())
+        answers = plan.run_list(gaplinte.pack(KIND_OPEN, 1, 8) * 21845)
+        self.assertEqual(answers, [(0, 0)] + [(3, None)] * 21844)
+        self.assertRaises(TypeError, plan.run_list, 3)
+
+
+class Orders(Case):
+    def test_there_and_back(self):
+        self.assertEqual(gaplinte.pack(KIND_OPEN, 3, 291), b"\x03\x12\x30")
+        self.assertEqual(gaplinte.read(b"\x03\x12\x30"), Call(kind=KIND_OPEN, line=3, period=291))
+        for line in range(64):
+            for period in (0, 1, 15, 16, 255, 256, 4095):
+                order = (line << 16 | period << 4).to_bytes(3, "big")
+                self.assertEqual(gaplinte.pack(KIND_OPEN, line, period), order)
+                self.assertEqual(gaplinte.read(order), (KIND_OPEN, line, period))
+            order = bytes([0x40 | line, 0, 0])
+            self.assertEqual(gaplinte.pack(KIND_CLOSE, line), order)
+            self.assertEqual(gaplinte.read(order), (KIND_CLOSE, line, 0))
+
+    def test_three_bytes(self):
+        for order in (b"", b"\0\0", b"\0\0\0\0"):
+            self.assertRaises(ValueError, gaplinte.read, order)
+        self.assertRaises(TypeError, gaplinte.read, 3)
+
+
+class Walks(Case):
+    def test_owned_rounds_are_counted(self):
+        plan = self.opened("4@0")
+        walker = Walker()
+        for round in range(100):
+            self.assertEqual(walker.walk(plan), None if round % 4 else 1)
+            self.assertEqual((walker.next, walker.owned), (round + 1, round // 4 + 1))
+
+    def test_at_the_end(self):
+        plan = self.opened("4@0")
+        for place in ((LAST, 0), (0, LAST), (LAST, LAST)):
+            walker = Walker(*place)
+            self.refused(9, walker.walk, plan)
+            self.assertEqual((walker.next, walker.owned), place)
+        walker = Walker(next=LAST - 3, owned=LAST - 1)
+        self.assertEqual(walker.walk(plan), 1)
+        self.assertEqual((walker.next, walker.owned), (LAST - 2, LAST))
+
+
+class Threads(Case):
+    def test_different_plans(self):
+        def lists(plan, period, answers):
+            orders = gaplinte.pack(KIND_OPEN, 1, period) + gaplinte.pack(KIND_OPEN, 2, 2 * period)
+            orders += gaplinte.pack(KIND_CLOSE, 1)
+            answers.extend(plan.run_list(orders * 500) for _ in range(20))
+
+        plans, told = [Plan() for _ in range(4)], [[] for _ in range(4)]
+        arguments = zip(plans, (4, 6, 8, 10), told)
+        threads = [threading.Thread(target=lists, args=each) for each in arguments]
+        for thread in threads:
+            thread.start()
+        for thread in threads:
+            thread.join()
+        for plan, period, answers in zip(plans, (4, 6, 8, 10), told):
+            alone, expected = Plan(), []
+            lists(alone, period, expected)
+            self.assertEqual((plan, answers), (alone, expected))
+            self.assertEqual(plan.lines(), alone.lines())
+
+
+class Library(Case):
+    def imported(self, library):
+        """What an import prints, and where the library was found, with GAPLINTE_LIBRARY set."""
+        program = "import gaplinte; print(gaplinte._library._name)"
+        environment = {**os.environ, "GAPLINTE_LIBRARY": str(library), "PYTHONPATH": str(FOLDER)}
+        return subprocess.run(
+            [sys.executable, "-B", "-c", program], env=environment, capture_output=True, text=True
+        )
+
+    def test_path_by_the_environment(self):
+        with tempfile.TemporaryDirectory() as folder:
+            library = pathlib.Path(folder) / "other.so"
+            missing = self.imported(library)
+            self.assertNotEqual(missing.returncode, 0)
+            self.assertIn("ImportError", missing.stderr)
+            self.assertIn(str(library), missing.stderr)
+            shutil.copy(gaplinte._library._name, library)
+            self.assertEqual(self.imported(library).stdout, f"{library}\n")
+
+
+if __name__ == "__main__":
+    unittest.main()

@@ -1,0 +1,38 @@
+"""Marked case A of document 01: periods 4, 6 and 8, then 2, which is refused with 5, then 12. Prints what the library
+answers; exits with 1 where that differs from document 01."""
+
+import pathlib
+import sys
+
+sys.path.insert(0, str(pathlib.Path(__file__).resolve().parents[1] / "bindings/python"))
+
+import gaplinte  # noqa: E402
+
+
+def book(plan, line, period):
+    """Opens a line; gives its start, or what it is refused with."""
+    try:
+        start = plan.open(line, period)
+    except gaplinte.Refused as refused:
+        print(f"line {line}, period {period}: {refused}")
+        return f"refused with {refused.number}"
+    print(f"line {line}, period {period}: starts at {start}")
+    return start
+
+
+def ask(plan, round):
+    """Gives the owner of a round."""
+    owner = plan.owner(round)
+    print(f"round {round}: idle" if owner is None else f"round {round}: line {owner}")
+    return owner
+
+
+def main():
+    plan = gaplinte.Plan()
+    booked = [book(plan, line, period) for line, period in [(1, 4), (2, 6), (3, 8), (4, 2), (4, 12)]]
+    owners = [ask(plan, round) for round in (7, 9, 10)]
+    return 0 if booked == [0, 1, 2, "refused with 5", 3] and owners == [2, None, 3] else 1
+
+
+if __name__ == "__main__":
+    sys.exit(main())
