@@ -1,5 +1,5 @@
-pub mod Copying
-pub mod OrdersServing
-pub mod RowsWritten
+pub mod Answering
 pub mod Serving
+pub mod ValuesBelow
+pub mod RowsWritten
 pub mod Told

@@ -1,186 +1,180 @@
--- An answer of a call tells its outcome: no value reaches 2^56 and no refusal is 0, so that the two cannot be confused.
+-- An answer of a call tells its outcome, since no refusal is 0: the calls refuse with 1 to 9 alone, and no value is above 2^32.
 -- Assumes nothing.
-use Prim.Native.Nat.{ℕ, _*_, _/_, _^_, _<_, _≤_}
-use native.Mathlib.Nat.{div-le-self}
+use Prim.Native.Nat.{ℕ, zero, suc, _-_, _^_, _%_, _<_, _≤_}
 use native.Mathlib.Omega.{arith}
-use mathlib.Core.Path.{_≡_, refl, ap}
+use mathlib.Core.Path.{_≡_, refl, _∙_, ap}
 use mathlib.Core.Bool.{Bool, true, false, not}
 use mathlib.Core.List.{List}
 use mathlib.Core.Option.{Option, none, some}
+use lib.IntN.{ℤ, negsuc}
 use lib.ListN.{length}
-use borrow.Author.Tests.{lt-ltb, le-ltb}
+use mir.Syntax.{Width, w8, w16, w32, w64, w128}
+use mir.Val.{bits, SFits, ofZ, toZ}
+use mir.ValLaws.{toZ-ofZ}
 use Rattle.tree.specs.Search.{if_then_else_}
-use Rattle.tree.specs.Tree.{Tree, is-open, period-of}
+use Rattle.tree.specs.Tree.{Tree, is-open}
 use Rattle.tree.specs.Shape.{Legal}
 use Rattle.tree.specs.Opening.{opened, start-given}
-use Rattle.tree.specs.Asking.{owner, turns}
-use Rattle.tree.specs.Refusals.{first-refusal, line-above-63, period-out-of-range, no-room, earlier-checks, open-refusal, line-refusal}
+use Rattle.tree.specs.Asking.{owner}
+use Rattle.tree.specs.Refusals.{first-refusal, line-above-63, line-refusal}
 use Rattle.tree.specs.Calls.{Call, open-line, close-line, refusal, reply, answer-unless, answer, Outcome, gives, refuses, gives-unless, show-outcome, turns-outcome}
-use Rattle.tree.specs.Record.{treeOf}
-use Rattle.tree.proofs.Proper.{legal-proper}
+use Rattle.tree.specs.Record.{legal}
 use Rattle.tree.proofs.Standing.{start-below-period}
-use Rattle.tree.proofs.Numbering.{stands-number}
-use Rattle.tree.proofs.Ownership.{walk-owns}
 use Rattle.tree.proofs.Checks.{open-may}
 use Rattle.tree.proofs.Opening.{opened-new}
-use Rattle.bridge.proofs.TreeOfRecord.{treeOf-legal}
+use Rattle.bridge.specs.Rows.{tree-of}
+use Rattle.bridge.proofs.TreeOfRecord.{legal-on-record}
 use Rattle.plan.specs.declared.walker.WalkerPlace.{WalkerPlace}
 use Rattle.plan.specs.Walker.{at-end, walk-outcome}
-use Rattle.orders.specs.Order.{kind, period, order-of}
+use Rattle.orders.specs.Order.{order-of}
 use Rattle.orders.specs.Packing.{kind-above-1, period-above-4095, close-with-period, packing-refusal, packing}
-use Rattle.orders.specs.Reading.{filler-set, reading-refusal, reading}
+use Rattle.orders.specs.Reading.{reading}
 use Rattle.lists.specs.Lists.{length-refused, room-refused, list-refusal}
-use Rattle.gaplinte.specs.Answer.{answer-number, outcome-told, zero-value, Answers, Tells}
-use Rattle.gaplinte.specs.Served.{plan-of, Whole, change-outcome, ChangeServed, line-or-64, OwnerServed, list-outcome, ListServed, TurnsServed, ShowServed, line-number, place-of, WalkServed}
+use Rattle.lists.proofs.AnswersFit.{Small, small-if, refusal-small, reading-small}
+use Rattle.gaplinte.specs.Answer.{answer-number, zero-value, outcome-told, InRange, Tells, narrowed}
+use Rattle.gaplinte.specs.Served.{change-outcome, ChangeServed, line-or-64, owner-outcome, tree-outcome, ShowServed, line-number, place-of, WalkServed, list-outcome, ListServed}
 use Rattle.gaplinte.specs.OrdersServed.{bytes-in, PackServed, ReadServed}
+use Rattle.gaplinte.proofs.ValuesBelow.{owner-below-64, turns-at-most}
 
--- a value below 2^56, or a refusal that is not 0
-Clear : Outcome ℕ → Type 0
-Clear (gives n) = n < 2 ^ 56
-Clear (refuses n) = 0 < n
+-- An outcome in range is told
 
-told-back : (o : Outcome ℕ) → Clear o → outcome-told (answer-number o) ≡ o
-unfolding Clear answer-number outcome-told
-told-back (gives n) below = rw (lt-ltb n (2 ^ 56) below)
-told-back (refuses n) positive =
-    let reaches : 2 ^ 56 ≤ 2 ^ 56 * n = omega arith in
-    let number : 2 ^ 56 * n / 2 ^ 56 ≡ n = omega arith in
-    rw (le-ltb (2 ^ 56 * n) (2 ^ 56) reaches) (ap refuses number)
+told-back : (o : Outcome ℕ) → InRange o → outcome-told (answer-number o) ≡ o
+unfolding InRange answer-number outcome-told
+told-back (gives n) range = refl
+told-back (refuses zero) range = absurd (omega (arith, range .0))
+told-back (refuses (suc n)) range = refl
 
-answers-tell : (Fit : Type 0) (o : Outcome ℕ) (r : ℕ) → Clear o → Answers Fit o r → Tells Fit o r
-unfolding Clear
-answers-tell Fit o r clear a =
-    record {
-      told-is = λ fit. rw (a .answer-is fit) (told-back o clear);
-      told-length = λ wrong. rw (a .wrong-length wrong) (told-back (refuses 255) (omega arith));
-    }
+tells : (o : Outcome ℕ) (r : ℤ) → InRange o → r ≡ answer-number o → Tells o r
+tells o r range is = record { told-is = ap outcome-told is ∙ told-back o range; in-range = range }
 
--- No refusal is 0
+-- a refusal that a caller keeps in a signed number of 8, 16 or 32 bits is the same negative number there
+pub refusal-survives : (w : Width) (n : ℕ) → bits w ≤ 64 → InRange (refuses n) → narrowed w (answer-number (refuses n)) ≡ answer-number (refuses n)
+unfolding InRange answer-number narrowed
+refusal-survives w zero narrow range = absurd (omega (arith, range .0))
+refusal-survives w (suc n) narrow range = ap (toZ w) (lowest-bits w narrow) ∙ toZ-ofZ w (negsuc n) (fits w narrow)
+  where
+    lowest-bits : (v : Width) → bits v ≤ 64 → (2 ^ 64 - suc n) % 2 ^ bits v ≡ 2 ^ bits v - suc n
+    lowest-bits w8 h = omega (arith, range .1)
+    lowest-bits w16 h = omega (arith, range .1)
+    lowest-bits w32 h = omega (arith, range .1)
+    lowest-bits w64 h = omega (arith, range .1)
+    lowest-bits w128 h = absurd (omega arith)
 
-Positive : Option ℕ → Type 0
-Positive none = Unit
-Positive (some n) = 0 < n
+    fits : (v : Width) → bits v ≤ 64 → SFits v (negsuc n)
+    fits w8 h = record { sfits = omega (arith, range .1) }
+    fits w16 h = record { sfits = omega (arith, range .1) }
+    fits w32 h = record { sfits = omega (arith, range .1) }
+    fits w64 h = record { sfits = omega (arith, range .1) }
+    fits w128 h = absurd (omega arith)
 
-positive-if : (b : Bool) (n : ℕ) (o : Option ℕ) → 0 < n → Positive o → Positive (if b then some n else o)
-unfolding Positive
-positive-if true n o positive rest = positive
-positive-if false n o positive rest = rest
+-- The refusals of the calls
 
-line-positive : (L : ℕ) (t : Tree) → Positive (line-refusal L t)
-unfolding Positive line-refusal first-refusal
-line-positive L t = positive-if (line-above-63 L) 1 _ (omega arith) (positive-if (not (is-open L t)) 4 _ (omega arith) tt)
+line-small : (L : ℕ) (t : Tree) → Small (line-refusal L t)
+unfolding Small line-refusal first-refusal
+line-small L t = small-if (line-above-63 L) 1 _ (omega arith) (small-if (not (is-open L t)) 4 _ (omega arith) tt)
 
-refusal-positive : (c : Call) (t : Tree) → Positive (refusal c t)
-unfolding Positive refusal open-refusal earlier-checks first-refusal
-refusal-positive (open-line L p) t =
-    positive-if (line-above-63 L) 1 _ (omega arith)
-    (positive-if (period-out-of-range p) 2 _ (omega arith)
-    (positive-if (is-open L t) 3 _ (omega arith) (positive-if (no-room p t) 5 _ (omega arith) tt)))
-refusal-positive (close-line L) t = line-positive L t
+list-small : (n room : ℕ) → Small (list-refusal n room)
+unfolding Small list-refusal first-refusal
+list-small n room = small-if (length-refused n) 7 _ (omega arith) (small-if (room-refused n room) 8 _ (omega arith) tt)
 
-list-positive : (n room : ℕ) → Positive (list-refusal n room)
-unfolding Positive list-refusal first-refusal
-list-positive n room = positive-if (length-refused n) 7 _ (omega arith) (positive-if (room-refused n room) 8 _ (omega arith) tt)
+packing-small : (k L p : ℕ) → Small (packing-refusal k L p)
+unfolding Small packing-refusal first-refusal
+packing-small k L p =
+    small-if (kind-above-1 k) 6 _ (omega arith)
+    (small-if (line-above-63 L) 1 _ (omega arith)
+    (small-if (period-above-4095 p) 2 _ (omega arith) (small-if (close-with-period k p) 6 _ (omega arith) tt)))
 
-packing-positive : (k L p : ℕ) → Positive (packing-refusal k L p)
-unfolding Positive packing-refusal first-refusal
-packing-positive k L p =
-    positive-if (kind-above-1 k) 6 _ (omega arith)
-    (positive-if (line-above-63 L) 1 _ (omega arith)
-    (positive-if (period-above-4095 p) 2 _ (omega arith) (positive-if (close-with-period k p) 6 _ (omega arith) tt)))
+-- Their outcomes are in range
 
-reading-positive : (n : ℕ) → Positive (reading-refusal n)
-unfolding Positive reading-refusal first-refusal
-reading-positive n =
-    positive-if (kind-above-1 (kind n)) 6 _ (omega arith)
-    (positive-if (filler-set n) 6 _ (omega arith) (positive-if (close-with-period (kind n) (period n)) 6 _ (omega arith) tt))
+refused-in-range : (n : ℕ) → (0 < n) × (n < 10) → InRange (refuses n)
+unfolding InRange
+refused-in-range n small = (omega (arith, small .0), omega (arith, small .1))
 
--- No value reaches 2^56
+value-in-range : (o : Option ℕ) (n : ℕ) → Small o → n ≤ 2 ^ 32 → InRange (gives-unless o n)
+unfolding Small InRange gives-unless
+value-in-range none n small most = most
+value-in-range (some k) n small most = refused-in-range k small
 
--- a call that gives 0
-clear-zero : {A : Type 0} (o : Option ℕ) (a : A) → Positive o → Clear (zero-value (gives-unless o a))
-unfolding Clear Positive zero-value gives-unless
-clear-zero none a positive = omega arith
-clear-zero (some n) a positive = positive
-
-clear-value : (o : Option ℕ) (n : ℕ) → Positive o → n < 2 ^ 56 → Clear (gives-unless o n)
-unfolding Clear Positive gives-unless
-clear-value none n positive below = below
-clear-value (some k) n positive below = positive
+zero-in-range : {A : Type 0} (o : Option ℕ) (a : A) → Small o → InRange (zero-value (gives-unless o a))
+unfolding Small InRange zero-value gives-unless
+zero-in-range none a small = omega arith
+zero-in-range (some k) a small = refused-in-range k small
 
 -- a start is below 4,095, the largest period
-clear-reply : (c : Call) (t : Tree) → Legal t → refusal c t ≡ none → Clear (change-outcome (reply c t))
-unfolding Clear refusal reply change-outcome
-clear-reply (open-line L p) t is-legal allowed =
+reply-in-range : (c : Call) (t : Tree) → Legal t → refusal c t ≡ none → InRange (change-outcome (reply c t))
+unfolding InRange refusal reply change-outcome
+reply-in-range (open-line L p) t is-legal allowed =
     let may = open-may L p t is-legal allowed in
     let below = start-below-period L (opened L p t) p (start-given p t) (opened-new L p t may) in
     omega arith
-clear-reply (close-line L) t is-legal allowed = omega arith
+reply-in-range (close-line L) t is-legal allowed = omega arith
 
-clear-change : (c : Call) (t : Tree) → Legal t → Clear (change-outcome (answer c t))
-unfolding Clear Positive answer answer-unless change-outcome
-clear-change c t is-legal = by-refusal (refusal c t) refl (refusal-positive c t)
+change-in-range : (c : Call) (t : Tree) → Legal t → InRange (change-outcome (answer c t))
+unfolding Small answer answer-unless change-outcome
+change-in-range c t is-legal = by-refusal (refusal c t) refl (refusal-small c t)
   where
-    by-refusal : (o : Option ℕ) → refusal c t ≡ o → Positive o → Clear (change-outcome (answer-unless o (reply c t)))
-    by-refusal none e positive = clear-reply c t is-legal e
-    by-refusal (some n) e positive = positive
+    by-refusal : (o : Option ℕ) → refusal c t ≡ o → Small o → InRange (change-outcome (answer-unless o (reply c t)))
+    by-refusal none e small = reply-in-range c t is-legal e
+    by-refusal (some n) e small = refused-in-range n small
 
-line-below : (round : ℕ) (t : Tree) → Legal t → line-or-64 (owner round t) < 2 ^ 56
-unfolding line-or-64
-line-below round t is-legal = by-owner (owner round t) refl
+line-in-range : (round : ℕ) (t : Tree) → Legal t → InRange (gives (line-or-64 (owner round t)))
+unfolding InRange line-or-64
+line-in-range round t is-legal = by-owner (owner round t) refl
   where
-    by-owner : (o : Option ℕ) → owner round t ≡ o → line-or-64 o < 2 ^ 56
+    by-owner : (o : Option ℕ) → owner round t ≡ o → line-or-64 o ≤ 2 ^ 32
     by-owner none e = omega arith
-    by-owner (some L) e =
-        let owns = walk-owns L round t (legal-proper t is-legal) e in
-        let number = stands-number L t (owns .period) (owns .start) is-legal (owns .stands) in
-        omega arith
+    by-owner (some L) e = let below = owner-below-64 round t L is-legal e in omega arith
 
-clear-walk : (place : WalkerPlace) (t : Tree) → Legal t → Clear (line-number (walk-outcome place t))
-unfolding Clear walk-outcome line-number
-clear-walk place t is-legal = by-end (at-end place)
+walk-in-range : (place : WalkerPlace) (t : Tree) → Legal t → InRange (line-number (walk-outcome place t))
+unfolding walk-outcome line-number
+walk-in-range place t is-legal = by-end (at-end place)
   where
-    by-end : (b : Bool) → Clear (line-number (if b then refuses 9 else gives (owner (place .next) t)))
-    by-end true = omega arith
-    by-end false = line-below (place .next) t is-legal
+    by-end : (b : Bool) → InRange (line-number (if b then refuses 9 else gives (owner (place .next) t)))
+    by-end true = refused-in-range 9 (omega arith, omega arith)
+    by-end false = line-in-range (place .next) t is-legal
 
-turns-below : (L N : ℕ) (t : Tree) → N < 2 ^ 32 → turns L N t < 2 ^ 56
-unfolding turns
-turns-below L N t below = let most = div-le-self N (period-of L t) in omega arith
+tree-in-range : (rows : List ℕ) → InRange (tree-outcome rows)
+unfolding InRange tree-outcome
+tree-in-range rows = by-test (legal rows)
+  where
+    by-test : (b : Bool) → (if b then 1 else 0) ≤ 2 ^ 32
+    by-test true = omega arith
+    by-test false = omega arith
 
 -- The calls
 
-pub change-tells : (c : Call) (before after : List ℕ) (r : ℕ) → ChangeServed c before after r → Tells (Whole before) (change-outcome (answer c (treeOf (plan-of before)))) r
-change-tells c before after r served = answers-tell _ _ _ (clear-change c _ (treeOf-legal _)) (served .answers)
+pub change-tells : (c : Call) (before after : List ℕ) (r : ℤ) → ChangeServed c before after r → Tells (change-outcome (answer c (tree-of before))) r
+change-tells c before after r served = tells _ r (change-in-range c _ (legal-on-record before)) (served .answer-is)
 
-pub owner-tells : (rows : List ℕ) (round r : ℕ) → OwnerServed rows round r → Tells (Whole rows) (gives (line-or-64 (owner round (treeOf (plan-of rows))))) r
-unfolding Clear
-owner-tells rows round r served = answers-tell _ _ _ (line-below round _ (treeOf-legal _)) (served .answers)
+pub owner-tells : (round : ℕ) (rows : List ℕ) (r : ℤ) → r ≡ answer-number (owner-outcome round rows) → Tells (owner-outcome round rows) r
+unfolding owner-outcome
+owner-tells round rows r is = tells _ r (line-in-range round _ (legal-on-record rows)) is
 
-pub list-tells : (before orders lent after written : List ℕ) (r : ℕ) → ListServed before orders lent after written r →
-    Tells (Whole before) (list-outcome (list-refusal (length orders) (length lent))) r
+pub tree-tells : (rows : List ℕ) (r : ℤ) → r ≡ answer-number (tree-outcome rows) → Tells (tree-outcome rows) r
+tree-tells rows r is = tells _ r (tree-in-range rows) is
+
+-- the rounds of turns are a number of 32 bits
+pub turns-tells : (L N : ℕ) (t : Tree) (r : ℤ) → N < 2 ^ 32 → r ≡ answer-number (turns-outcome L N t) → Tells (turns-outcome L N t) r
+unfolding turns-outcome
+turns-tells L N t r below is = tells _ r (value-in-range _ _ (line-small L t) (omega (arith, turns-at-most L N t))) is
+
+pub show-tells : (rows : List ℕ) (L : ℕ) (before after : List ℕ) (r : ℤ) → ShowServed rows L before after r → Tells (zero-value (show-outcome L (tree-of rows))) r
+unfolding show-outcome
+show-tells rows L before after r served = tells _ r (zero-in-range _ _ (line-small L _)) (served .answer-is)
+
+pub walk-tells : (rows before after : List ℕ) (r : ℤ) → WalkServed rows before after r → Tells (line-number (walk-outcome (place-of before) (tree-of rows))) r
+walk-tells rows before after r served = tells _ r (walk-in-range _ _ (legal-on-record rows)) (served .answer-is)
+
+pub list-tells : (before orders lent after written : List ℕ) (r : ℤ) → ListServed before orders lent after written r →
+    Tells (list-outcome (list-refusal (length orders) (length lent))) r
 unfolding list-outcome
 list-tells before orders lent after written r served =
-    answers-tell _ _ _ (clear-value _ 0 (list-positive (length orders) (length lent)) (omega arith)) (served .answers)
+    tells _ r (value-in-range _ 0 (list-small (length orders) (length lent)) (omega arith)) (served .answer-is)
 
-pub turns-tells : (rows : List ℕ) (L N r : ℕ) → N < 2 ^ 32 → TurnsServed rows L N r → Tells (Whole rows) (turns-outcome L N (treeOf (plan-of rows))) r
-unfolding turns-outcome
-turns-tells rows L N r below served = answers-tell _ _ _ (clear-value _ _ (line-positive L _) (turns-below L N _ below)) (served .answers)
-
-pub show-tells : (rows : List ℕ) (L : ℕ) (before after : List ℕ) (r : ℕ) → ShowServed rows L before after r →
-    Tells (Whole rows × (length before ≡ 24)) (zero-value (show-outcome L (treeOf (plan-of rows)))) r
-unfolding show-outcome
-show-tells rows L before after r served = answers-tell _ _ _ (clear-zero _ _ (line-positive L _)) (served .answers)
-
-pub walk-tells : (rows before after : List ℕ) (r : ℕ) → WalkServed rows before after r →
-    Tells (Whole rows × (length before ≡ 2)) (line-number (walk-outcome (place-of before) (treeOf (plan-of rows)))) r
-walk-tells rows before after r served = answers-tell _ _ _ (clear-walk _ _ (treeOf-legal _)) (served .answers)
-
-pub pack-tells : (k L p : ℕ) (before after : List ℕ) (r : ℕ) → PackServed k L p before after r → Tells (length before ≡ 3) (zero-value (packing k L p)) r
+pub pack-tells : (k L p : ℕ) (before after : List ℕ) (r : ℤ) → PackServed k L p before after r → Tells (zero-value (packing k L p)) r
 unfolding packing
-pack-tells k L p before after r served = answers-tell _ _ _ (clear-zero _ _ (packing-positive k L p)) (served .answers)
+pack-tells k L p before after r served = tells _ r (zero-in-range _ _ (packing-small k L p)) (served .answer-is)
 
-pub read-tells : (order before after : List ℕ) (r : ℕ) → ReadServed order before after r →
-    Tells ((length order ≡ 3) × (length before ≡ 3)) (zero-value (reading (order-of (bytes-in order)))) r
+pub read-tells : (order before after : List ℕ) (r : ℤ) → ReadServed order before after r → Tells (zero-value (reading (order-of (bytes-in order)))) r
 unfolding reading
-read-tells order before after r served = answers-tell _ _ _ (clear-zero _ _ (reading-positive _)) (served .answers)
+read-tells order before after r served = tells _ r (zero-in-range _ _ (reading-small _)) (served .answer-is)

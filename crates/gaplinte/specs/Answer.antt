@@ -1,43 +1,48 @@
--- The answer of a call of the library is one number, and its slices have fixed lengths.
+-- The answer of a call of the library is one signed number: its value, or minus the number with which the call is refused.
 -- Assumes nothing.
-use Prim.Native.Nat.{ℕ, _*_, _/_, _^_}
+use Prim.Native.Nat.{ℕ, suc, _^_, _%_, _≤_}
 use mathlib.Core.Path.{_≡_}
 use mathlib.Core.List.{List}
-use lib.Dec.{ltb}
-use Rattle.tree.specs.Search.{if_then_else_}
+use lib.IntN.{ℤ, pos, negsuc, negℤ}
+use mir.Syntax.{Width, w64}
+use mir.Val.{bits, SFits, ofZ, toZ}
 use Rattle.tree.specs.Calls.{Outcome, gives, refuses}
 
--- the number that is answered: the value, or 2^56 times the number with which the call is refused
-unfoldable pub answer-number : Outcome ℕ → ℕ
-answer-number (gives n) = n
-answer-number (refuses n) = 2 ^ 56 * n
+-- the number that is answered: the value, or minus the number of the refusal
+unfoldable pub answer-number : Outcome ℕ → ℤ
+answer-number (gives n) = pos n
+answer-number (refuses n) = negℤ (pos n)
 
--- what a caller reads out of an answer: a number below 2^56 is a value
-unfoldable pub outcome-told : ℕ → Outcome ℕ
-outcome-told r = if ltb r (2 ^ 56) then gives r else refuses (r / 2 ^ 56)
+-- the number for an outcome, which 64 bits with a sign hold: what the two functions that make an answer promise
+pub record IsAnswer (o : Outcome ℕ) (r : ℤ) : Type 0 where
+  pub number-is : r ≡ answer-number o
+  pub fits : SFits w64 r
 
--- the value of a call that writes what it gives into a lent slice is 0
+-- the value of a call that writes what it gives into a lent record is 0
 unfoldable pub zero-value : {A : Type 0} → Outcome A → Outcome ℕ
 zero-value (gives a) = gives 0
 zero-value (refuses n) = refuses n
 
--- what such a call leaves in the lent slice: the numbers of what it gives, or the slice as found where it is refused
+-- what such a call leaves in the lent record: the numbers of what it gives, or the record as found where it is refused
 unfoldable pub numbers-or : {A : Type 0} → (A → List ℕ) → List ℕ → Outcome A → List ℕ
 numbers-or numbers lent (gives a) = numbers a
 numbers-or numbers lent (refuses n) = lent
 
--- A call answered r. Where the lent slices have the lengths that it asks for, r is the number of what the rules give.
--- Else the call is refused with 255.
-pub record Answers (Fit : Type 0) (o : Outcome ℕ) (r : ℕ) : Type 0 where
-  pub answer-is : Fit → r ≡ answer-number o
-  pub wrong-length : (Fit → ⊥) → r ≡ answer-number (refuses 255)
+-- What a caller reads out of an answer: 0 or more is a value, below 0 is minus a refusal.
+unfoldable pub outcome-told : ℤ → Outcome ℕ
+outcome-told (pos n) = gives n
+outcome-told (negsuc n) = refuses (suc n)
 
--- A call left `after` in a lent slice: what the rules leave there or, where a length is wrong, the slice as found.
-pub record Leaves (Fit : Type 0) (before ruled after : List ℕ) : Type 0 where
-  pub contents-are : Fit → after ≡ ruled
-  pub left-alone : (Fit → ⊥) → after ≡ before
+-- (Refusals, 1) A refusal is one of document 01's numbers, 1 to 9. A value is at most 2^32.
+unfoldable pub InRange : Outcome ℕ → Type 0
+InRange (gives n) = n ≤ 2 ^ 32
+InRange (refuses n) = (1 ≤ n) × (n ≤ 9)
 
--- The same for what the answer tells: the outcome of the rules, or a refusal with 255.
-pub record Tells (Fit : Type 0) (o : Outcome ℕ) (r : ℕ) : Type 0 where
-  pub told-is : Fit → outcome-told r ≡ o
-  pub told-length : (Fit → ⊥) → outcome-told r ≡ refuses 255
+-- an answer tells its outcome, and the outcome is in range
+pub record Tells (o : Outcome ℕ) (r : ℤ) : Type 0 where
+  pub told-is : outcome-told r ≡ o
+  pub in-range : InRange o
+
+-- an answer that a caller keeps in a signed number of fewer bits: its lowest bits, read with a sign
+unfoldable pub narrowed : Width → ℤ → ℤ
+narrowed w r = toZ w (ofZ w64 r % 2 ^ bits w)

@@ -1,28 +1,22 @@
--- What each call of the library gives, for every slice and every number.
+-- What each call of the library gives, for every record and every number.
 -- Assumes nothing.
 use Prim.Native.Nat.{ℕ}
 use mathlib.Core.Path.{_≡_}
+use mathlib.Core.Bool.{Bool}
 use mathlib.Core.List.{List, [], _∷_}
 use mathlib.Core.Option.{Option, none, some}
+use lib.IntN.{ℤ}
 use lib.ListN.{length, getD}
-use Rattle.tree.specs.declared.Plan.{Plan}
+use Rattle.tree.specs.Search.{if_then_else_}
 use Rattle.tree.specs.Asking.{owner, Shown}
 use Rattle.tree.specs.Calls.{Call, Answer, booked, done, refused, answer, Outcome, gives, refuses, gives-unless, show-outcome, turns-outcome}
-use Rattle.tree.specs.Record.{treeOf, numbers}
+use Rattle.tree.specs.Record.{legal, numbers}
+use Rattle.bridge.specs.Rows.{plan-of, tree-of, rows-after}
 use Rattle.plan.specs.declared.walker.WalkerPlace.{WalkerPlace}
-use Rattle.plan.specs.Meets.{plan-after}
 use Rattle.plan.specs.Walker.{walk-outcome, place-after}
 use Rattle.lists.specs.Lists.{list-refusal}
 use Rattle.lists.specs.Runs.{plan-after-list, bytes-after-list}
-use Rattle.gaplinte.specs.Answer.{zero-value, numbers-or, Answers, Leaves}
-
--- the plan whose record a slice is
-unfoldable pub plan-of : List ℕ → Plan
-plan-of rows = record { rows = rows }
-
--- a slice is as long as a record
-abbrev pub Whole : List ℕ → Type 0
-Whole rows = length rows ≡ 1408
+use Rattle.gaplinte.specs.Answer.{answer-number, zero-value, numbers-or}
 
 -- Open and close
 
@@ -32,10 +26,10 @@ change-outcome (booked s) = gives s
 change-outcome done = gives 0
 change-outcome (refused n) = refuses n
 
--- an open or a close on a slice: its answer, and the record after it, as found where the call is refused
-pub record ChangeServed (c : Call) (before after : List ℕ) (r : ℕ) : Type 0 where
-  pub answers : Answers (Whole before) (change-outcome (answer c (treeOf (plan-of before)))) r
-  pub rows : Leaves (Whole before) before (plan-after c (plan-of before) .rows) after
+-- an open or a close on a lent record: its answer, and the record after it, as found where the call is refused
+pub record ChangeServed (c : Call) (before after : List ℕ) (r : ℤ) : Type 0 where
+  pub answer-is : r ≡ answer-number (change-outcome (answer c (tree-of before)))
+  pub rows-are : after ≡ rows-after c before
 
 -- Owner
 
@@ -44,27 +38,15 @@ unfoldable pub line-or-64 : Option ℕ → ℕ
 line-or-64 (some L) = L
 line-or-64 none = 64
 
--- the owner of a round by a slice: no outcome of it is a refusal
-pub record OwnerServed (rows : List ℕ) (round r : ℕ) : Type 0 where
-  pub answers : Answers (Whole rows) (gives (line-or-64 (owner round (treeOf (plan-of rows))))) r
+-- (Asking the plan, 2) the owner of a round by a lent record: no outcome of it is a refusal
+unfoldable pub owner-outcome : ℕ → List ℕ → Outcome ℕ
+owner-outcome round rows = gives (line-or-64 (owner round (tree-of rows)))
 
--- A list of orders
+-- A tree
 
--- the value of a list that is not refused is 0
-unfoldable pub list-outcome : Option ℕ → Outcome ℕ
-list-outcome o = gives-unless o 0
-
--- (Orders, 4, 5) A list on a slice: its answer, the record after it, and the lent answer bytes, as found where the list is refused.
-pub record ListServed (before orders lent after written : List ℕ) (r : ℕ) : Type 0 where
-  pub answers : Answers (Whole before) (list-outcome (list-refusal (length orders) (length lent))) r
-  pub rows : Leaves (Whole before) before (plan-after-list (list-refusal (length orders) (length lent)) (plan-of before) orders .rows) after
-  pub bytes : Leaves (Whole before) lent (bytes-after-list (list-refusal (length orders) (length lent)) (plan-of before) orders lent) written
-
--- Turns
-
--- (Asking the plan, 4) turns of a line by a slice
-pub record TurnsServed (rows : List ℕ) (L N r : ℕ) : Type 0 where
-  pub answers : Answers (Whole rows) (turns-outcome L N (treeOf (plan-of rows))) r
+-- (The tree, 16) 1 where the record is a tree, 0 where it is none and every call treats it as the empty plan
+unfoldable pub tree-outcome : List ℕ → Outcome ℕ
+tree-outcome rows = gives (if legal rows then 1 else 0)
 
 -- Show
 
@@ -72,10 +54,10 @@ pub record TurnsServed (rows : List ℕ) (L N r : ℕ) : Type 0 where
 unfoldable pub shown-numbers : Shown → List ℕ
 shown-numbers s = s .period ∷ s .start ∷ numbers (s .rows)
 
--- show of a line by a slice: its answer, and the 24 numbers lent, as found where the call is refused
-pub record ShowServed (rows : List ℕ) (L : ℕ) (before after : List ℕ) (r : ℕ) : Type 0 where
-  pub answers : Answers (Whole rows × (length before ≡ 24)) (zero-value (show-outcome L (treeOf (plan-of rows)))) r
-  pub shown : Leaves (Whole rows × (length before ≡ 24)) before (numbers-or shown-numbers before (show-outcome L (treeOf (plan-of rows)))) after
+-- show of a line by a lent record: its answer, and the 24 numbers lent, as found where the call is refused
+pub record ShowServed (rows : List ℕ) (L : ℕ) (before after : List ℕ) (r : ℤ) : Type 0 where
+  pub answer-is : r ≡ answer-number (zero-value (show-outcome L (tree-of rows)))
+  pub shown-is : after ≡ numbers-or shown-numbers before (show-outcome L (tree-of rows))
 
 -- The walker
 
@@ -91,7 +73,19 @@ place-of place = record { next = getD place 0 0; owned = getD place 1 0 }
 unfoldable pub place-numbers : WalkerPlace → List ℕ
 place-numbers p = p .next ∷ p .owned ∷ []
 
--- (The walker, 2) A walker call on two slices: its answer, and the place moved on, as found where the call is refused.
-pub record WalkServed (rows before after : List ℕ) (r : ℕ) : Type 0 where
-  pub answers : Answers (Whole rows × (length before ≡ 2)) (line-number (walk-outcome (place-of before) (treeOf (plan-of rows)))) r
-  pub place : Leaves (Whole rows × (length before ≡ 2)) before (place-numbers (place-after (place-of before) (treeOf (plan-of rows)))) after
+-- (The walker, 2) A walker call on a lent record and a lent place: its answer, and the place moved on, as found where the call is refused.
+pub record WalkServed (rows before after : List ℕ) (r : ℤ) : Type 0 where
+  pub answer-is : r ≡ answer-number (line-number (walk-outcome (place-of before) (tree-of rows)))
+  pub place-is : after ≡ place-numbers (place-after (place-of before) (tree-of rows))
+
+-- A list of orders
+
+-- the value of a list that is not refused is 0
+unfoldable pub list-outcome : Option ℕ → Outcome ℕ
+list-outcome o = gives-unless o 0
+
+-- (Orders, 4, 5) A list on a lent record: its answer, the record after it, and the lent answer bytes, as found where the list is refused.
+pub record ListServed (before orders lent after written : List ℕ) (r : ℤ) : Type 0 where
+  pub answer-is : r ≡ answer-number (list-outcome (list-refusal (length orders) (length lent)))
+  pub rows-are : after ≡ plan-after-list (list-refusal (length orders) (length lent)) (plan-of before) orders .rows
+  pub bytes-are : written ≡ bytes-after-list (list-refusal (length orders) (length lent)) (plan-of before) orders lent

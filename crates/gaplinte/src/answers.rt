@@ -1,14 +1,19 @@
-// The number that a call answers where it is refused.
-ghost use mathlib.Core.Path.{_≡_};
-ghost use Rattle.tree.specs.Calls.{refuses};
-ghost use Rattle.gaplinte.specs.Answer.{answer-number};
+// The number that a call answers: its value, or minus the number of a refusal.
+ghost use Prim.Native.Nat.{_<_, _^_};
+ghost use Rattle.tree.specs.Calls.{gives, refuses};
+ghost use Rattle.gaplinte.specs.Answer.{IsAnswer};
 
-// What is answered to a slice of a wrong length: 2^56 times 255.
-pub(crate) const WRONG_LENGTH: u64 = 18374686479671623680;
-
-// 2^56 times the number of a refusal.
-pub(crate) fn refused(number: u8) -> u64
-    ensures { λ r. ⌜ r ≡ answer-number (refuses number) ⌝ }
+// A value as an answer. It has to stay a number that is not negative.
+pub(crate) fn value(number: u64) -> i64
+    requires { ⌜ number < 2 ^ 63 ⌝ }
+    ensures { λ r. ⌜ IsAnswer (gives number) r ⌝ }
 {
-    72057594037927936 * (number as u64)
+    number as i64
+}
+
+// Minus the number of a refusal.
+pub(crate) fn refused(number: u8) -> i64
+    ensures { λ r. ⌜ IsAnswer (refuses number) r ⌝ }
+{
+    -(number as i64)
 }

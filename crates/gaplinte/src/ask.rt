@@ -1,53 +1,44 @@
-// The calls that ask a plan.
+// The calls that ask a plan for one number.
 ghost use mathlib.Core.Path.{_≡_};
-ghost use Rattle.plan.specs.Ask.{owner-answer, turns-answer};
+ghost use Rattle.tree.specs.Calls.{turns-outcome};
+ghost use Rattle.bridge.specs.Rows.{tree-of};
 ghost use Rattle.gaplinte.specs.Answer.{answer-number};
-ghost use Rattle.gaplinte.specs.Served.{line-or-64, OwnerServed, TurnsServed};
+ghost use Rattle.gaplinte.specs.Served.{owner-outcome, tree-outcome};
 use crate::answers;
-use crate::answers::WRONG_LENGTH;
-use crate::rows;
 use plan::ask::OwnerAnswer;
 use plan::ask::TurnsAnswer;
 
-// The line, or 64 where the round is idle.
-fn owner_number(answer: OwnerAnswer) -> u64
-    ensures { λ r. ⌜ r ≡ line-or-64 (owner-answer answer) ⌝ }
-{
-    match answer {
-        OwnerAnswer::Line(line) => line,
-        OwnerAnswer::Idle => 64,
-    }
-}
-
-// The owner of a round in the plan that the slice holds.
+// The owner of a round: its line, or 64 where the round is idle. It is never refused.
 #[no_mangle]
-pub extern "C" fn gaplinte_owner(rows: &[u16], round: u64) -> u64
-    ensures { λ r. ⌜ OwnerServed (now (rows .entry)) round r ⌝ }
+pub extern "C" fn gaplinte_owner(rows: &[u16; 1408], round: u64) -> i64
+    ensures { λ r. ⌜ r ≡ answer-number (owner-outcome round (now (rows .entry))) ⌝ }
 {
-    if rows.len() != 1408 {
-        return WRONG_LENGTH;
-    }
-    let numbers = rows::copied(rows);
-    owner_number(plan::ask::owner_rows(&numbers, round))
-}
-
-// The number that stands for an answer of turns.
-fn turns_number(answer: TurnsAnswer) -> u64
-    ensures { λ r. ⌜ r ≡ answer-number (turns-answer answer) ⌝ }
-{
+    let answer = plan::ask::owner_rows(rows, round);
     match answer {
-        TurnsAnswer::Count(count) => count,
-        TurnsAnswer::Refused(number) => answers::refused(number),
+        OwnerAnswer::Line(line) => answers::value(line),
+        OwnerAnswer::Idle => answers::value(64),
     }
 }
 
 // Turns of a line in so many rounds.
 #[no_mangle]
-pub extern "C" fn gaplinte_turns(rows: &[u16], line: u64, rounds: u32) -> u64
-    ensures { λ r. ⌜ TurnsServed (now (rows .entry)) line rounds r ⌝ }
+pub extern "C" fn gaplinte_turns(rows: &[u16; 1408], line: u64, rounds: u32) -> i64
+    ensures { λ r. ⌜ r ≡ answer-number (turns-outcome line rounds (tree-of (now (rows .entry)))) ⌝ }
 {
-    if rows.len() != 1408 {
-        return WRONG_LENGTH;
+    let answer = plan::ask::turns_rows(rows, line, rounds);
+    match answer {
+        TurnsAnswer::Count(count) => answers::value(count),
+        TurnsAnswer::Refused(number) => answers::refused(number),
     }
-    turns_number(plan::ask::turns(rows::copy_in(rows), line, rounds))
+}
+
+// Whether a record is a tree: 1, or 0 where every other call treats it as the empty plan. It is never refused.
+#[no_mangle]
+pub extern "C" fn gaplinte_is_tree(rows: &[u16; 1408]) -> i64
+    ensures { λ r. ⌜ r ≡ answer-number (tree-outcome (now (rows .entry))) ⌝ }
+{
+    if paths::legal(rows) {
+        return answers::value(1);
+    }
+    answers::value(0)
 }

@@ -1,20 +1,17 @@
 // The call that shows a line.
 ghost use mathlib.Core.Path.{_≡_};
-ghost use lib.ListN.{length};
 ghost use Rattle.gaplinte.specs.Served.{shown-numbers, ShowServed};
 use crate::answers;
-use crate::answers::WRONG_LENGTH;
-use crate::rows;
 use plan::ask::ShowAnswer;
 use tree::Period;
 use tree::Row;
 use tree::Start;
 
-// Writes period and start, then weight and edge of each row.
-fn write_shown(period: Period, start: Start, path: [Row; 11], shown: &mut [u16])
-    requires { ⌜ length (now shown) ≡ 24 ⌝ }
-    ensures { λ _. ⌜ now (shown .exit) ≡ shown-numbers (record { period = period .0; start = start .0; rows = path }) ⌝ }
+// Period and start, then weight and edge of each row.
+fn shown_numbers(period: Period, start: Start, path: [Row; 11]) -> [u16; 24]
+    ensures { λ r. ⌜ r ≡ shown-numbers (record { period = period .0; start = start .0; rows = path }) ⌝ }
 {
+    let mut shown = [0; 24];
     shown[0] = period.0;
     shown[1] = start.0;
     let mut k = 0;
@@ -24,26 +21,21 @@ fn write_shown(period: Period, start: Start, path: [Row; 11], shown: &mut [u16])
         shown[3 + 2 * k] = row.edge;
         k += 1;
     }
+    shown
 }
 
-// Shows a line of the plan that the slice holds: 24 numbers are written, or none where the call is refused.
+// Shows a line: 24 numbers are written, or none where the call is refused.
 #[no_mangle]
-pub extern "C" fn gaplinte_show(rows: &[u16], line: u64, shown: &mut [u16]) -> u64
+pub extern "C" fn gaplinte_show(rows: &[u16; 1408], line: u64, shown: &mut [u16; 24]) -> i64
     ensures { λ r. ⌜ ShowServed (now (rows .entry)) line (now (shown .entry)) (now (shown .exit)) r ⌝ }
 {
-    if rows.len() != 1408 {
-        return WRONG_LENGTH;
-    }
-    if shown.len() != 24 {
-        return WRONG_LENGTH;
-    }
-    let showing = plan::ask::show(rows::copy_in(rows), line);
+    let showing = plan::ask::show_rows(rows, line);
     let answer = showing.answer;
     let path = showing.rows;
     match answer {
         ShowAnswer::Times(period, start) => {
-            write_shown(period, start, path, shown);
-            0
+            *shown = shown_numbers(period, start, path);
+            answers::value(0)
         }
         ShowAnswer::Refused(number) => answers::refused(number),
     }

@@ -24,7 +24,7 @@ unfoldable pub Small : Option ℕ → Type 0
 Small none = Unit
 Small (some n) = (0 < n) × (n < 10)
 
-small-if : (b : Bool) (n : ℕ) (o : Option ℕ) → (0 < n) × (n < 10) → Small o → Small (if b then some n else o)
+pub small-if : (b : Bool) (n : ℕ) (o : Option ℕ) → (0 < n) × (n < 10) → Small o → Small (if b then some n else o)
 unfolding Small
 small-if true n o small rest = small
 small-if false n o small rest = rest

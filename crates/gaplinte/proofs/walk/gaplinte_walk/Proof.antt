@@ -1,66 +1,78 @@
--- `gaplinte::walk::gaplinte_walk` meets its contract: a slice has a wrong length, or `plan::walker::walk` is called on the record and the place.
+-- `gaplinte::walk::gaplinte_walk` meets its contract, by that of `plan::walker::walk_rows`: a line is below 64.
 -- Assumes nothing.
 use native.Mathlib.Omega.{arith}
-use lib.ListN.{length-set}
+use mathlib.Core.Path.{sym, _∙_, ap}
 use borrow.Author.Needs.{needs}
-use Rattle.gaplinte.specs.Answer.{answer-number}
-use Rattle.gaplinte.specs.Served.{place-of}
-use Rattle.gaplinte.proofs.Serving.{walk-wrong, walk-served}
+use Rattle.bridge.proofs.TreeOfRecord.{legal-on-record}
+use Rattle.plan.specs.Walker.{walk-answer}
+use Rattle.gaplinte.specs.Served.{line-or-64, line-number, place-of}
+use Rattle.gaplinte.proofs.Serving.{walk-served}
+use Rattle.gaplinte.proofs.ValuesBelow.{walked-below-64}
 use Rattle.gaplinte.proofs.walk.gaplinte_walk.Statement.{statement}
 use Rattle.gaplinte.proofs.walk.gaplinte_walk.Tie as tie
 
+element-copy-out-t10 : tie.Need-element-copy-out-t10
+element-copy-out-t10 c = search needs
+
+element-copy-out-t13 : tie.Need-element-copy-out-t13
+element-copy-out-t13 c = search needs
+
+walk-rows-requires : tie.Need-walk-rows-requires
+walk-rows-requires c κs = search needs
+
+enum-known-answer : tie.Need-enum-known-answer
+enum-known-answer c = search needs
+
+value-requires : tie.Need-value-requires
+unfolding walk-answer
+value-requires c κs =
+    let line = c .before in
+    let walked = line .before .before .before in
+    omega (arith, walked-below-64 _ _ _ (legal-on-record _) (sym (ap walk-answer (line .answer .given .1)) ∙ walked .walk-rows .ensures .answer-is))
+
+enum-told : tie.Need-enum-told
+enum-told c = search needs
+
+value-requires-2 : tie.Need-value-requires-2
+value-requires-2 c κs = search needs
+
+enum-known-answer-2 : tie.Need-enum-known-answer-2
+enum-known-answer-2 c = search needs
+
+refused-requires : tie.Need-refused-requires
+refused-requires c κs = search needs
+
 returns : tie.Need-returns
-unfolding answer-number
-returns c = walk-wrong _ _ (λ fit. c .if1 .taken (fit .0))
+unfolding walk-answer line-number line-or-64 place-of
+returns c =
+    let line = c .before .before in
+    walk-served _ _ _ _ _ _ (line .before .before .before .walk-rows .ensures) (line .answer .given .1) (c .value .ensures)
 
 returns-2 : tie.Need-returns-2
-unfolding answer-number
-returns-2 c = walk-wrong _ _ (λ fit. c .if2 .taken (fit .1))
-
-slice-read-t9 : tie.Need-slice-read-t9
-slice-read-t9 c = search needs
-
-slice-read-t11 : tie.Need-slice-read-t11
-slice-read-t11 c = search needs
-
-copy-in-requires : tie.Need-copy-in-requires
-copy-in-requires c κs = search needs
-
-walk-requires : tie.Need-walk-requires
-walk-requires c κs = search needs
-
-slice-write-place : tie.Need-slice-write-place
-slice-write-place c = search needs
-
-slice-write-place-2 : tie.Need-slice-write-place-2
-slice-write-place-2 c = simp length-set (omega arith)
-
-walk-number-requires : tie.Need-walk-number-requires
-walk-number-requires c κs = search needs
-
-same-length : tie.Need-same-length
-same-length c = simp length-set
+unfolding walk-answer line-number line-or-64 place-of
+returns-2 c =
+    let idle = c .before in
+    walk-served _ _ _ _ _ _ (idle .before .before .before .walk-rows .ensures) (idle .enum-told .given .1) (c .value2 .ensures)
 
 returns-3 : tie.Need-returns-3
-unfolding place-of
+unfolding walk-answer line-number place-of
 returns-3 c =
-    let walked = c .before in
-    let copied = walked .before in
-    let right = copied .before .before .before in
-    walk-served _ _ _ _ _ _ (right .before .if1 .left) (right .if2 .left) (copied .copy-in .ensures) (walked .walk .ensures) (c .walk-number .ensures)
+    let match = c .before .before in
+    walk-served _ _ _ _ _ _ (match .before .before .before .walk-rows .ensures) (match .answer2 .given .1) (c .refused .ensures)
 
 pub gaplinte-walk-spec : {M : Type 1} → statement M
 gaplinte-walk-spec =
     tie.close
     (tie.spec
+    element-copy-out-t10
+    element-copy-out-t13
+    walk-rows-requires
+    enum-known-answer
+    value-requires
+    enum-told
+    value-requires-2
+    enum-known-answer-2
+    refused-requires
     returns
     returns-2
-    slice-read-t9
-    slice-read-t11
-    copy-in-requires
-    walk-requires
-    slice-write-place
-    slice-write-place-2
-    walk-number-requires
-    same-length
     returns-3)

@@ -1,0 +1,65 @@
+-- The values that calls give, with their bounds: a line, a turns figure, the line of an order that was read.
+-- Assumes nothing.
+use Prim.Native.Nat.{ℕ, zero, suc, _+_, _/_, _^_, _<_, _≤_}
+use native.Mathlib.Nat.{div-le-self}
+use native.Mathlib.Omega.{arith}
+use mathlib.Core.Path.{_≡_, refl, sym, _∙_, ap}
+use mathlib.Core.Bool.{Bool, true, false}
+use mathlib.Core.Option.{Option, none, some}
+use Rattle.tree.specs.Search.{if_then_else_}
+use Rattle.tree.specs.Tree.{Tree, period-of}
+use Rattle.tree.specs.Shape.{Legal}
+use Rattle.tree.specs.Asking.{owner, turns}
+use Rattle.tree.specs.Refusals.{line-refusal}
+use Rattle.tree.specs.Calls.{Call, Outcome, gives, refuses, gives-unless, turns-outcome}
+use Rattle.tree.proofs.Proper.{legal-proper}
+use Rattle.tree.proofs.Numbering.{stands-number}
+use Rattle.tree.proofs.Ownership.{walk-owns}
+use Rattle.plan.specs.declared.walker.WalkerPlace.{WalkerPlace}
+use Rattle.plan.specs.Walker.{at-end, walk-outcome}
+use Rattle.orders.specs.Order.{kind, line, period}
+use Rattle.orders.specs.Reading.{reading-refusal, call-of, line-of, reading}
+use Rattle.orders.proofs.FieldLaws.{field-below}
+
+-- what a call gives is what it would give if it were not refused
+given-value : {A : Type 0} (refusal : Option ℕ) (a b : A) → gives b ≡ gives-unless refusal a → b ≡ a
+unfolding gives-unless
+given-value none a b given = cc
+given-value (some n) a b given = let z : _≡_ {A = ℕ} 0 1 = cc in absurd (omega arith)
+
+-- an owner is a line
+pub owner-below-64 : (round : ℕ) (t : Tree) (L : ℕ) → Legal t → owner round t ≡ some L → L < 64
+owner-below-64 round t L is-legal owned =
+    let owns = walk-owns L round t (legal-proper t is-legal) owned in
+    let number = stands-number L t (owns .period) (owns .start) is-legal (owns .stands) in
+    omega arith
+
+pub walked-below-64 : (place : WalkerPlace) (t : Tree) (L : ℕ) → Legal t → gives (some L) ≡ walk-outcome place t → L < 64
+unfolding walk-outcome
+walked-below-64 place t L is-legal = by-end (at-end place)
+  where
+    by-end : (ended : Bool) → gives (some L) ≡ (if ended then refuses 9 else gives (owner (place .next) t)) → L < 64
+    by-end true walked = let z : _≡_ {A = ℕ} 0 1 = cc in absurd (omega arith)
+    by-end false walked = owner-below-64 (place .next) t L is-legal cc
+
+-- a turns figure is at most one more than the rounds
+pub turns-at-most : (L N : ℕ) (t : Tree) → turns L N t ≤ N + 1
+unfolding turns
+turns-at-most L N t = let most = div-le-self N (period-of L t) in omega arith
+
+pub turns-given : (L N : ℕ) (t : Tree) (n : ℕ) → gives n ≡ turns-outcome L N t → n ≤ N + 1
+unfolding turns-outcome
+turns-given L N t n given = rw (given-value (line-refusal L t) (turns L N t) n given) (turns-at-most L N t)
+
+-- the line of an order that is read has 6 bits
+call-line : (k L p : ℕ) → line-of (call-of k L p) ≡ L
+unfolding call-of line-of
+call-line zero L p = refl
+call-line (suc k) L p = refl
+
+pub line-read-below-64 : (n : ℕ) (c : Call) → gives c ≡ reading n → line-of c < 64
+unfolding reading line
+line-read-below-64 n c given =
+    let below = field-below 6 16 n in
+    let number = ap line-of (given-value (reading-refusal n) (call-of (kind n) (line n) (period n)) c given) ∙ call-line (kind n) (line n) (period n) in
+    omega arith
