@@ -1,4 +1,5 @@
 pub mod Demand3OfCalls
 pub mod Demand3OfRows
+pub mod Demand3OfLibrary
 pub mod Demand3OfLists
 pub mod Replaying

@@ -1,4 +1,5 @@
 pub mod Ran
 pub mod RanOnRows
+pub mod RanInLibrary
 pub mod OrdersRun
 pub mod Replay
