@@ -34,10 +34,14 @@ pub(crate) fn answers_length(order_bytes: usize) -> usize {
 fn answered(order: [u8; 3], answer: [u8; 2]) -> Option<Result<Answered, Refusal>> {
     let number = u16::from_be_bytes(answer);
     let (result, start) = (answer[0] >> 4, number & 0x0fff);
-    match (result, Call::read(order), start) {
-        (0, Ok(Call::Open(..)), start) => Some(Ok(Answered::Booked(Start(start.into())))),
-        (0, Ok(Call::Close(_)), 0) => Some(Ok(Answered::Closed)),
-        (2..=5, Ok(_), 0) | (6, Err(_), 0) => Refusal::numbered(result).map(Err),
+    match (Call::read(order), result, u64::from(start)) {
+        (Ok(Call::Open(_, period)), 0, start) if start < period.0 => {
+            Some(Ok(Answered::Booked(Start(start))))
+        }
+        (Ok(Call::Close(_)), 0, 0) => Some(Ok(Answered::Closed)),
+        (Ok(Call::Open(..)), 2 | 3 | 5, 0) | (Ok(Call::Close(_)), 4, 0) | (Err(_), 6, 0) => {
+            Refusal::numbered(result).map(Err)
+        }
         _ => None,
     }
 }

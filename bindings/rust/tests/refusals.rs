@@ -211,16 +211,20 @@ fn bytes_that_are_no_answers() {
     let told = |order: &[u8], answer: &[u8]| Answers::of(order, answer)?.next();
     let booked = |start| Some(Ok(Answered::Booked(Start(start))));
     assert_eq!(told(&open, &[0x00, 0x00]), booked(0));
-    assert_eq!(told(&open, &[0x0f, 0xff, 0xee]), booked(4095));
+    assert_eq!(told(&open, &[0x00, 0x07, 0xee]), booked(7));
     assert_eq!(told(&open, &[0x50, 0x00]), Some(Err(Refusal::NoCandidate)));
     assert_eq!(told(&close, &[0x00, 0x00]), Some(Ok(Answered::Closed)));
     assert_eq!(told(&none, &[0x60, 0x00]), Some(Err(Refusal::NoOrder)));
-    // a start of a close, or beside a refusal
+    // a start that is not below the period of 8, a start of a close, or one beside a refusal
+    assert_eq!(told(&open, &[0x00, 0x08]), None);
     assert_eq!(told(&close, &[0x00, 0x01]), None);
     assert_eq!(told(&open, &[0x50, 0x01]), None);
     // a result that no order has, or not this one
-    for result in [1, 6, 7, 8, 9, 10, 15] {
+    for result in [1, 4, 6, 7, 8, 9, 10, 15] {
         assert_eq!(told(&open, &[result << 4, 0x00]), None);
+    }
+    for result in [1, 2, 3, 5, 6, 7, 8, 9, 10, 15] {
+        assert_eq!(told(&close, &[result << 4, 0x00]), None);
     }
     for result in [0, 1, 2, 3, 4, 5] {
         assert_eq!(told(&none, &[result << 4, 0x00]), None);
