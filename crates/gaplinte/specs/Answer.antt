@@ -33,7 +33,7 @@ unfoldable pub outcome-told : ℤ → Outcome ℕ
 outcome-told (pos n) = gives n
 outcome-told (negsuc n) = refuses (suc n)
 
--- (Refusals, 1) A refusal is one of document 01's numbers, 1 to 9. A value is at most 2^32.
+-- A refusal is one of document 01's numbers, 1 to 9, as demand 1 asks of every call. A value is at most 2^32.
 unfoldable pub InRange : Outcome ℕ → Type 0
 InRange (gives n) = n ≤ 2 ^ 32
 InRange (refuses n) = (1 ≤ n) × (n ≤ 9)
