@@ -1,7 +1,7 @@
 //! Opening and closing a line.
 
 use super::paths::{is_closed, legal, length, same_node};
-use super::search::{best_candidate, Spot};
+use super::search::{best_candidate, lines_end, Spot};
 use super::{plan_in_mut, refused, Path, Plan, EMPTY, ROWS};
 use crate::Record;
 
@@ -35,9 +35,6 @@ fn place_line(plan: &mut Plan, line: usize, spot: Spot, quotient: u16) {
 }
 
 fn book_first(plan: &mut Plan, line: usize, period: u16) -> i64 {
-    if !plan.iter().all(is_closed) {
-        return refused(5);
-    }
     plan[line] = CLOSED;
     plan[line][0] = [period, 0];
     0
@@ -69,9 +66,12 @@ pub fn open_line(plan: &mut Plan, line: u64, period: u64) -> i64 {
     if !is_closed(&plan[line]) {
         return refused(3);
     }
-    match best_candidate(plan, period) {
-        Some(spot) => book_at(plan, line, period, spot),
-        None => book_first(plan, line, period),
+    match lines_end(plan) {
+        0 => book_first(plan, line, period),
+        end => match best_candidate(plan, end, period) {
+            Some(spot) => book_at(plan, line, period, spot),
+            None => refused(5),
+        },
     }
 }
 

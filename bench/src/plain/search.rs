@@ -119,14 +119,14 @@ fn best_on_path(
 }
 
 /// One more than the largest number of an open line, 0 in the empty plan.
-fn lines_end(plan: &Plan) -> usize {
+pub fn lines_end(plan: &Plan) -> usize {
     plan.iter()
         .rposition(|path| !is_closed(path))
         .map_or(0, |last| last + 1)
 }
 
-pub fn best_candidate(plan: &Plan, period: u16) -> Option<Spot> {
-    let end = lines_end(plan);
+/// The chosen candidate, of a plan whose lines from `end` on are closed.
+pub fn best_candidate(plan: &Plan, end: usize, period: u16) -> Option<Spot> {
     (0..end)
         .filter(|&line| !is_closed(&plan[line]))
         .fold(None, |best, line| {

@@ -195,7 +195,7 @@ fn best_on_path(
 }
 
 // One more than the largest number of an open line, 0 in the empty plan.
-fn lines_end(rows: &[u16; 1408]) -> usize
+pub fn lines_end(rows: &[u16; 1408]) -> usize
     ensures { λ r. ⌜ EndOfLines (now (rows .entry)) r ⌝ }
 {
     let mut end = 64;
@@ -209,11 +209,10 @@ fn lines_end(rows: &[u16; 1408]) -> usize
 }
 
 // The chosen candidate for a period. A closed line is passed without a copy of the best so far.
-pub fn best_candidate(rows: &[u16; 1408], period: Period) -> Chosen
-    requires { ⌜ legal (now rows) ≡ true ⌝ }
+pub fn best_candidate(rows: &[u16; 1408], end: usize, period: Period) -> Chosen
+    requires { ⌜ (legal (now rows) ≡ true) × ClosedFrom (now rows) end ⌝ }
     ensures { λ r. ⌜ spot-of r ≡ best-of-lines (path-at (now (rows .entry))) (period .0) 64 ⌝ }
 {
-    let end = lines_end(rows);
     let mut best = Chosen::Nothing;
     for line in 0..end {
         if is_closed(rows, line) {

@@ -1,6 +1,6 @@
 -- The ways that an open can go on a legal record.
 -- Assumes nothing.
-use Prim.Native.Nat.{ℕ, zero, suc, _+_, _*_, _/_, _<_, _≤_}
+use Prim.Native.Nat.{ℕ, zero, suc, _+_, _-_, _*_, _/_, _<_, _≤_}
 use native.Mathlib.Omega.{arith}
 use mathlib.Core.Path.{_≡_, refl, _∙_, ap, ap₂}
 use mathlib.Core.Bool.{Bool, true, false, not}
@@ -9,7 +9,7 @@ use mathlib.Core.Option.{none}
 use lib.Dec.{ltb}
 use lib.ListN.{length, take, length-take}
 use Rattle.tree.specs.declared.Row.{Row}
-use Rattle.tree.specs.Search.{if_then_else_, all-below}
+use Rattle.tree.specs.Search.{if_then_else_}
 use Rattle.tree.specs.Tree.{row}
 use Rattle.tree.specs.Refusals.{period-out-of-range}
 use Rattle.tree.specs.Calls.{open-line, refusal, refused, booked}
@@ -17,10 +17,9 @@ use Rattle.tree.specs.Record.{path-at, no-rows, legal}
 use Rattle.paths.specs.Rules.{row-of, same-node, Spot, best-of-lines, set-line, split-path, booked-path, booked-at}
 use Rattle.tree.proofs.Checks.{range-positive, range-at-most, open-refused-1, open-refused-2, open-refused-3, zero-out-of-range, above-out-of-range}
 use Rattle.tree.proofs.Opening.{MayOpen}
-use Rattle.tree.proofs.Searching.{all-below-at}
-use Rattle.paths.proofs.AllBelow.{all-below-faulty}
 use Rattle.paths.proofs.RowLaws.{no-rows-empty}
 use Rattle.paths.proofs.LegalLines.{legal-rest-unused}
+use Rattle.candidates.specs.Edges.{EndOfLines}
 use Rattle.booking.specs.Writing.{Placeable}
 use Rattle.bridge.specs.Rows.{tree-of, CarriedOut}
 use Rattle.bridge.proofs.SearchOnPaths.{FoundSpot}
@@ -52,19 +51,20 @@ open-again rows L p is-legal number inside there =
     refused-on (open-line L p) rows 3
     (open-refused-3 L p (tree-of rows) number inside (open-on-record rows is-legal L (omega arith) ∙ ap not there))
 
--- Without a candidate
+-- By the end of the open lines
 
-module _ (rows : List ℕ) (L p : ℕ) (ready : Bookable rows L p) (long : length rows ≡ 1408) where
-  pub open-full : best-of-lines (path-at rows) p 64 ≡ none → all-below 64 (λ M. no-rows (path-at rows M)) ≡ false → CarriedOut (open-line L p) rows rows (refused 5)
-  open-full none-found some-open =
-      let there = all-below-faulty 64 _ some-open in
-      open-full-on rows (ready .is-legal) long L p (ready .number) (ready .inside) (ready .absent) (there .0) (there .1) (there .2) none-found
-
-  pub open-first : all-below 64 (λ M. no-rows (path-at rows M)) ≡ true → CarriedOut (open-line L p) rows (set-line rows L (row p 0 ∷ [])) (booked 0)
+module _ (rows : List ℕ) (L p : ℕ) (ready : Bookable rows L p) (long : length rows ≡ 1408) (end : ℕ) (lines : EndOfLines rows end) where
+  pub open-first : end ≡ 0 → CarriedOut (open-line L p) rows (set-line rows L (row p 0 ∷ [])) (booked 0)
   unfolding AllClosed
   open-first none-open =
       open-first-on rows (ready .is-legal) long L p (ready .number) (ready .inside) (ready .absent) (range-positive p (ready .inside))
-      (all-below-at 64 _ none-open)
+      (λ M below. lines .closed-from .closed M (omega arith) below)
+
+  pub open-full : (end ≡ 0 → ⊥) → best-of-lines (path-at rows) p 64 ≡ none → CarriedOut (open-line L p) rows rows (refused 5)
+  open-full some-open none-found =
+      let below = lines .closed-from .within in
+      let last = lines .last-open (end - 1) (omega arith) in
+      open-full-on rows (ready .is-legal) long L p (ready .number) (ready .inside) (ready .absent) (end - 1) (omega arith) last none-found
 
 -- At the chosen candidate
 

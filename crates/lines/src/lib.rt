@@ -3,10 +3,7 @@ ghost use mathlib.Core.Path.{_≡_};
 ghost use mathlib.Core.Bool.{true, false};
 ghost use Prim.Native.Nat.{_<_};
 ghost use Rattle.tree.specs.Calls.{open-line, close-line, done};
-ghost use mathlib.Core.Option.{none};
-ghost use Rattle.tree.specs.Search.{all-below};
 ghost use Rattle.tree.specs.Record.{path-at, no-rows, legal};
-ghost use Rattle.paths.specs.Rules.{best-of-lines};
 ghost use Rattle.candidates.specs.Answers.{spot-in};
 ghost use Rattle.bridge.specs.Rows.{CarriedOut};
 ghost use Rattle.lines.specs.Answers.{open-answer, close-answer};
@@ -55,20 +52,6 @@ pub fn close_line(rows: &mut [u16; 1408], line: u64) -> CloseAnswer
     CloseAnswer::Done
 }
 
-// No line is open: the plan is empty.
-fn all_closed(rows: &[u16; 1408]) -> bool
-    ensures { λ r. ⌜ r ≡ all-below 64 (λ M. no-rows (path-at (now (rows .entry)) M)) ⌝ }
-{
-    let mut line = 0;
-    while line < 64 {
-        if !paths::is_closed(rows, line) {
-            return false;
-        }
-        line += 1;
-    }
-    true
-}
-
 // The node at a level of a line's path is split by d where d is below its weight.
 fn split_if_smaller(rows: &mut [u16; 1408], line: usize, level: usize, d: u16)
     requires { ⌜ SplittableIfSmaller (now rows) line level d ⌝ }
@@ -77,19 +60,6 @@ fn split_if_smaller(rows: &mut [u16; 1408], line: usize, level: usize, d: u16)
     if d < paths::weight(rows, line, level) {
         booking::split_node(rows, line, level, d);
     }
-}
-
-// The first line of a plan gets a root of its period. A plan that has lines and no candidate refuses with 5.
-fn book_first(rows: &mut [u16; 1408], line: usize, period: Period) -> OpenAnswer
-    requires { ⌜ Bookable (now rows) line (period .0) × (best-of-lines (path-at (now rows)) (period .0) 64 ≡ none) ⌝ }
-    ensures { λ r. ⌜ CarriedOut (open-line line (period .0)) (now (rows .entry)) (now (rows .exit)) (open-answer r) ⌝ }
-{
-    paths::whole(rows);
-    if !all_closed(rows) {
-        return OpenAnswer::Refused(5);
-    }
-    booking::place_first(rows, line, period);
-    OpenAnswer::Booked(Start(0))
 }
 
 // The line is booked at the chosen candidate.
@@ -110,14 +80,21 @@ fn book_at(rows: &mut [u16; 1408], line: usize, period: Period, spot: Spot) -> O
     OpenAnswer::Booked(start)
 }
 
-// The line is booked at the chosen candidate, as the first of the plan, or not at all.
+// The first line of a plan gets a root of its period; another one is booked at the chosen candidate, and refused with 5
+// where there is none.
 fn book_line(rows: &mut [u16; 1408], line: usize, period: Period) -> OpenAnswer
     requires { ⌜ Bookable (now rows) line (period .0) ⌝ }
     ensures { λ r. ⌜ CarriedOut (open-line line (period .0)) (now (rows .entry)) (now (rows .exit)) (open-answer r) ⌝ }
 {
-    let chosen = candidates::best_candidate(rows, period);
+    paths::whole(rows);
+    let end = candidates::lines_end(rows);
+    if end == 0 {
+        booking::place_first(rows, line, period);
+        return OpenAnswer::Booked(Start(0));
+    }
+    let chosen = candidates::best_candidate(rows, end, period);
     let Chosen::At(spot) = chosen else {
-        return book_first(rows, line, period);
+        return OpenAnswer::Refused(5);
     };
     book_at(rows, line, period, spot)
 }

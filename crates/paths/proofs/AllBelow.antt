@@ -15,7 +15,7 @@ pub all-below-fault : (n : ℕ) (test : ℕ → Bool) (i : ℕ) → i < n → te
 unfolding all-below
 all-below-fault n test i below h = ap not (some-below-at n (λ j. not (test j)) i below (ap not h))
 
-pub all-below-faulty : (n : ℕ) (test : ℕ → Bool) → all-below n test ≡ false → (i : ℕ) × (i < n) × (test i ≡ false)
+all-below-faulty : (n : ℕ) (test : ℕ → Bool) → all-below n test ≡ false → (i : ℕ) × (i < n) × (test i ≡ false)
 unfolding all-below
 all-below-faulty n test h =
     let x = some-below-true n (λ j. not (test j)) (not-false _ h) in

@@ -9,13 +9,10 @@ use Rattle.candidates.proofs.best_candidate.Statement.{statement}
 use Rattle.candidates.proofs.best_candidate.Tie as tie
 
 abbrev Inv-loop : tie.InvT-loop
-Inv-loop rows period end best₀ line₀ best line = BestOf rows (period .0) best line
+Inv-loop rows end period best₀ line₀ best line = BestOf rows (period .0) best line
 
 abbrev μ-loop : tie.MeasureT-loop
-μ-loop rows period end best₀ line₀ best line = end - line
-
-lines-end-requires : tie.Need-lines-end-requires Inv-loop μ-loop
-lines-end-requires c κs = search needs
+μ-loop rows end period best₀ line₀ best line = end - line
 
 loop-holds : tie.Need-loop-holds Inv-loop μ-loop
 loop-holds c = best-of-none _ _
@@ -38,7 +35,7 @@ best-on-path-requires : tie.Need-best-on-path-requires Inv-loop μ-loop
 best-on-path-requires c κs =
     let in-loop = c .before .before in
     let start = in-loop .before .before in
-    ((omega arith, start .before .pre, start .lines-end .ensures .closed-from), in-loop .before .loop .inv .best-is)
+    ((omega (arith, start .pre .1 .within), start .pre .0, start .pre .1), in-loop .before .loop .inv .best-is)
 
 add-line-2 : tie.Need-add-line-2 Inv-loop μ-loop
 add-line-2 c = search needs
@@ -50,7 +47,7 @@ loop-again-2 : tie.Need-loop-again-2 Inv-loop μ-loop
 loop-again-2 c = best-of-more (c .before .before .before .before .loop .inv) (omega arith) (c .best-on-path .ensures)
 
 returns : tie.Need-returns Inv-loop μ-loop
-returns c = best-of-all (c .before .loop .inv) (c .before .before .lines-end .ensures .closed-from) (c .loop-test .left)
+returns c = best-of-all (c .before .loop .inv) (c .before .before .pre .1) (c .loop-test .left)
 
 pub best-candidate-spec : {M : Type 1} → statement M
 best-candidate-spec =
@@ -58,7 +55,6 @@ best-candidate-spec =
     (tie.spec
     Inv-loop
     μ-loop
-    lines-end-requires
     loop-holds
     is-closed-requires
     add-line
