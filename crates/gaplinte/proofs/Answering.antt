@@ -35,6 +35,6 @@ module _ (n : ℕ) (below : n < 2 ^ 63) where
       let same = toZ-ofZ w64 (pos 0 -ℤ toZ w64 n) refusal-fits in
       record { number-is = same ∙ difference; fits = subst (SFits w64) (sym same) refusal-fits }
 
--- an answer that a function hands on is read back from its bits
-pub handed-on : (o : Outcome ℕ) (r : ℤ) → IsAnswer o r → toZ w64 (ofZ w64 r) ≡ answer-number o
-handed-on o r is = toZ-ofZ w64 r (is .fits) ∙ is .number-is
+-- an answer that a function hands on is read from its bits
+pub answer-read-back : (o : Outcome ℕ) (r : ℤ) → IsAnswer o r → toZ w64 (ofZ w64 r) ≡ answer-number o
+answer-read-back o r is = toZ-ofZ w64 r (is .fits) ∙ is .number-is

@@ -32,14 +32,14 @@ use Rattle.lists.specs.Runs.{refusal-in, ListRan}
 use Rattle.gaplinte.specs.Answer.{answer-number, IsAnswer, zero-value, numbers-or}
 use Rattle.gaplinte.specs.Served.{change-outcome, ChangeServed, line-or-64, owner-outcome, line-number, place-of, place-numbers, WalkServed, list-outcome, ListServed}
 use Rattle.gaplinte.specs.OrdersServed.{byte-numbers, PackServed}
-use Rattle.gaplinte.proofs.Answering.{handed-on}
+use Rattle.gaplinte.proofs.Answering.{answer-read-back}
 
 -- Open and close
 
 change-served : (c : Call) (before after : List ℕ) (a : Answer) (r : ℤ) → CarriedOut c before after a → IsAnswer (change-outcome a) r → ChangeServed c before after (toZ w64 (ofZ w64 r))
 change-served c before after a r carried is =
     record {
-      answer-is = handed-on _ r is ∙ ap (λ (b : Answer). answer-number (change-outcome b)) (carried .answer-is);
+      answer-is = answer-read-back _ r is ∙ ap (λ (b : Answer). answer-number (change-outcome b)) (carried .answer-is);
       rows-are = carried .rows-are;
     }
 
@@ -58,22 +58,22 @@ close-served L before after a b r carried told is = change-served (close-line L)
 pub owner-served : (round : ℕ) (rows : List ℕ) (a b : OwnerAnswer) (r : ℤ) → owner-answer a ≡ owner round (tree-of rows) → a ≡ b →
     IsAnswer (gives (line-or-64 (owner-answer b))) r → toZ w64 (ofZ w64 r) ≡ answer-number (owner-outcome round rows)
 unfolding owner-outcome
-owner-served round rows a b r asked told is = handed-on _ r is ∙ ap (λ (o : Option ℕ). answer-number (gives (line-or-64 o))) (ap owner-answer (sym told) ∙ asked)
+owner-served round rows a b r asked told is = answer-read-back _ r is ∙ ap (λ (o : Option ℕ). answer-number (gives (line-or-64 o))) (ap owner-answer (sym told) ∙ asked)
 
 pub turns-served : (L N : ℕ) (t : Tree) (a b : TurnsAnswer) (r : ℤ) → turns-answer a ≡ turns-outcome L N t → a ≡ b →
     IsAnswer (turns-answer b) r → toZ w64 (ofZ w64 r) ≡ answer-number (turns-outcome L N t)
-turns-served L N t a b r asked told is = handed-on _ r is ∙ ap answer-number (ap turns-answer (sym told) ∙ asked)
+turns-served L N t a b r asked told is = answer-read-back _ r is ∙ ap answer-number (ap turns-answer (sym told) ∙ asked)
 
 -- A call that writes what it gives into a lent record
 
 module _ {A : Type 0} (o : Outcome A) (r : ℤ) where
   pub zero-told : (a : A) → gives a ≡ o → IsAnswer (gives 0) r → toZ w64 (ofZ w64 r) ≡ answer-number (zero-value o)
   unfolding zero-value
-  zero-told a given is = handed-on _ r is ∙ ap (λ (p : Outcome A). answer-number (zero-value p)) given
+  zero-told a given is = answer-read-back _ r is ∙ ap (λ (p : Outcome A). answer-number (zero-value p)) given
 
   pub refusal-told : (n : ℕ) → refuses n ≡ o → IsAnswer (refuses n) r → toZ w64 (ofZ w64 r) ≡ answer-number (zero-value o)
   unfolding zero-value
-  refusal-told n refused is = handed-on _ r is ∙ ap (λ (p : Outcome A). answer-number (zero-value p)) refused
+  refusal-told n refused is = answer-read-back _ r is ∙ ap (λ (p : Outcome A). answer-number (zero-value p)) refused
 
 module _ {A : Type 0} (numbers : A → List ℕ) (lent : List ℕ) (o : Outcome A) where
   pub written : (a : A) (after : List ℕ) → gives a ≡ o → after ≡ numbers a → after ≡ numbers-or numbers lent o
@@ -91,7 +91,7 @@ pub walk-served : (rows place : List ℕ) (a b : WalkAnswer) (next : WalkerPlace
 unfolding place-numbers
 walk-served rows place a b next r walked told is =
     record {
-      answer-is = handed-on _ r is ∙ ap (λ (o : Outcome (Option ℕ)). answer-number (line-number o)) (ap walk-answer (sym told) ∙ walked .answer-is);
+      answer-is = answer-read-back _ r is ∙ ap (λ (o : Outcome (Option ℕ)). answer-number (line-number o)) (ap walk-answer (sym told) ∙ walked .answer-is);
       place-is = ap place-numbers (walked .place-is);
     }
 
@@ -101,7 +101,7 @@ pub list-served : (before orders lent after sent : List ℕ) (a b : ListAnswer) 
     IsAnswer (list-outcome (refusal-in b)) r → ListServed before orders lent after sent (toZ w64 (ofZ w64 r))
 list-served before orders lent after sent a b r ran told is =
     record {
-      answer-is = handed-on _ r is ∙ ap (λ (o : Option ℕ). answer-number (list-outcome o)) (ap refusal-in (sym told) ∙ ran .refusal-is);
+      answer-is = answer-read-back _ r is ∙ ap (λ (o : Option ℕ). answer-number (list-outcome o)) (ap refusal-in (sym told) ∙ ran .refusal-is);
       rows-are = λ i. ran .plan-is i .rows;
       bytes-are = ran .bytes-are;
     }

@@ -9,7 +9,7 @@ use mathlib.Core.Option.{Option, none, some}
 use lib.IntN.{ℤ, negsuc}
 use lib.ListN.{length}
 use mir.Syntax.{Width, w8, w16, w32, w64, w128}
-use mir.Val.{bits, SFits, ofZ, toZ}
+use mir.Val.{bits, SFits, toZ}
 use mir.ValLaws.{toZ-ofZ}
 use Rattle.tree.specs.Search.{if_then_else_}
 use Rattle.tree.specs.Tree.{Tree, is-open}

@@ -1,9 +1,9 @@
 -- The values that calls give, with their bounds: a line, a turns figure, the line of an order that was read.
 -- Assumes nothing.
-use Prim.Native.Nat.{ℕ, zero, suc, _+_, _/_, _^_, _<_, _≤_}
+use Prim.Native.Nat.{ℕ, zero, suc, _+_, _<_, _≤_}
 use native.Mathlib.Nat.{div-le-self}
 use native.Mathlib.Omega.{arith}
-use mathlib.Core.Path.{_≡_, refl, sym, _∙_, ap}
+use mathlib.Core.Path.{_≡_, refl, _∙_, ap}
 use mathlib.Core.Bool.{Bool, true, false}
 use mathlib.Core.Option.{Option, none, some}
 use Rattle.tree.specs.Search.{if_then_else_}
@@ -11,7 +11,7 @@ use Rattle.tree.specs.Tree.{Tree, period-of}
 use Rattle.tree.specs.Shape.{Legal}
 use Rattle.tree.specs.Asking.{owner, turns}
 use Rattle.tree.specs.Refusals.{line-refusal}
-use Rattle.tree.specs.Calls.{Call, Outcome, gives, refuses, gives-unless, turns-outcome}
+use Rattle.tree.specs.Calls.{Call, gives, refuses, gives-unless, turns-outcome}
 use Rattle.tree.proofs.Proper.{legal-proper}
 use Rattle.tree.proofs.Numbering.{stands-number}
 use Rattle.tree.proofs.Ownership.{walk-owns}

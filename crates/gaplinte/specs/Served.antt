@@ -2,14 +2,13 @@
 -- Assumes nothing.
 use Prim.Native.Nat.{ℕ}
 use mathlib.Core.Path.{_≡_}
-use mathlib.Core.Bool.{Bool}
 use mathlib.Core.List.{List, [], _∷_}
 use mathlib.Core.Option.{Option, none, some}
 use lib.IntN.{ℤ}
 use lib.ListN.{length, getD}
 use Rattle.tree.specs.Search.{if_then_else_}
 use Rattle.tree.specs.Asking.{owner, Shown}
-use Rattle.tree.specs.Calls.{Call, Answer, booked, done, refused, answer, Outcome, gives, refuses, gives-unless, show-outcome, turns-outcome}
+use Rattle.tree.specs.Calls.{Call, Answer, booked, done, refused, answer, Outcome, gives, refuses, gives-unless, show-outcome}
 use Rattle.tree.specs.Record.{legal, numbers}
 use Rattle.bridge.specs.Rows.{plan-of, tree-of, rows-after}
 use Rattle.plan.specs.declared.walker.WalkerPlace.{WalkerPlace}
