@@ -5,4 +5,4 @@ pub mod Walking
 -- The path as 11 rows
 pub mod ElevenRows
 -- Turns
-pub mod TurnsBound
+pub mod TurnsByDivision

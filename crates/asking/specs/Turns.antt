@@ -1,13 +1,14 @@
--- How many of some successive rounds are a line's (document 01, Asking the plan, 4).
+-- Turns by division, for a line of period p and start s: the formula that `turns_of` computes.
+-- That it is how many rounds the line owns is a law, proofs/TurnsByDivision.antt.
 -- Assumes nothing.
-use Prim.Native.Nat.{ℕ, _+_, _%_}
-use lib.Dec.{eqb}
-use Rattle.tree.specs.Search.{if_then_else_, total-below}
+use Prim.Native.Nat.{ℕ, _+_, _-_, _/_, _%_}
+use lib.Dec.{ltb}
+use Rattle.tree.specs.Search.{if_then_else_}
 
--- 1 for a round that fits a line of period q and start u, else 0
-unfoldable pub fits : ℕ → ℕ → ℕ → ℕ
-fits q u n = if eqb (n % q) u then 1 else 0
+-- how many rounds lie from round a to the next one that fits the line, which may be a itself
+unfoldable pub until-turn : ℕ → ℕ → ℕ → ℕ
+until-turn p s a = (s + p - a % p) % p
 
--- how many of the N rounds from a on fit it
-unfoldable pub fitting : ℕ → ℕ → ℕ → ℕ → ℕ
-fitting q u a N = total-below N (λ i. fits q u (a + i))
+-- of the N rounds from a on that one fits, if it is among them, and one for each whole period after it
+unfoldable pub turns-in : ℕ → ℕ → ℕ → ℕ → ℕ
+turns-in p s a N = if ltb (until-turn p s a) N then (N - 1 - until-turn p s a) / p + 1 else 0

@@ -1,7 +1,7 @@
 // Asking the plan: what owner, show and turns read from the lent array of a plan record.
 ghost use mathlib.Core.Path.{_≡_};
 ghost use mathlib.Core.Bool.{true};
-ghost use Prim.Native.Nat.{suc, _+_, _/_, _<_};
+ghost use Prim.Native.Nat.{suc, _<_};
 ghost use lib.Dec.{eqb};
 ghost use lib.ListN.{length};
 ghost use Rattle.tree.specs.Tree.{product, sum};
@@ -9,6 +9,7 @@ ghost use Rattle.tree.specs.Asking.{rows-11};
 ghost use Rattle.tree.specs.Record.{path-at, legal};
 ghost use Rattle.paths.specs.Rules.{line-under, walk-on-paths, owner-on-paths};
 ghost use Rattle.asking.specs.Answers.{line-through, takes-edge, first-open, owner-answered};
+ghost use Rattle.asking.specs.Turns.{until-turn, turns-in};
 use tree::Period;
 use tree::Row;
 use tree::Start;
@@ -149,10 +150,27 @@ pub fn rows_of(rows: &[u16; 1408], line: usize) -> [Row; 11]
     path
 }
 
-// Turns of a line of this period in so many rounds, of 64 bits since the figure can reach 2^32.
-pub fn turns_of(period: Period, rounds: u32) -> u64
-    requires { ⌜ 0 < period .0 ⌝ }
-    ensures { λ r. ⌜ r ≡ rounds / period .0 + 1 ⌝ }
+// How many rounds lie from a round to the next one that fits a line's times, which may be the round itself. The round's
+// remainder is taken first, so that no sum passes 64 bits.
+fn until_turn(times: Times, first: u64) -> u64
+    requires { ⌜ 0 < times .period .0 ⌝ }
+    ensures { λ r. ⌜ r ≡ until-turn (times .period .0) (times .start .0) first ⌝ }
 {
-    (rounds as u64) / (period.0 as u64) + 1
+    let period = times.period.0 as u64;
+    let start = times.start.0 as u64;
+    (start + period - first % period) % period
+}
+
+// Turns of a line with these times in so many rounds from the first on, those past 2^64 among them. So many rounds as
+// `needed` are needed to come to a turn.
+pub fn turns_of(times: Times, first: u64, rounds: u32) -> u64
+    requires { ⌜ 0 < times .period .0 ⌝ }
+    ensures { λ r. ⌜ r ≡ turns-in (times .period .0) (times .start .0) first rounds ⌝ }
+{
+    let needed = until_turn(times, first) + 1;
+    let all = rounds as u64;
+    if all < needed {
+        return 0;
+    }
+    (all - needed) / (times.period.0 as u64) + 1
 }

@@ -1,6 +1,6 @@
 -- Asking a record: owner, show and turns over the record's paths answer what the rules answer on its tree.
 -- Assumes nothing.
-use Prim.Native.Nat.{ℕ, _+_, _/_, _<_, _≤_}
+use Prim.Native.Nat.{ℕ, _<_, _≤_}
 use native.Mathlib.Omega.{arith}
 use mathlib.Core.Path.{_≡_, _∙_, ap}
 use mathlib.Core.Bool.{true, false, not}
@@ -24,16 +24,16 @@ shown-refused : (L n : ℕ) (t : Tree) → line-refusal L t ≡ some n → show-
 unfolding show-outcome gives-unless
 shown-refused L n t h = rw h
 
-turns-refused : (L N n : ℕ) (t : Tree) → line-refusal L t ≡ some n → turns-outcome L N t ≡ refuses n
+turns-refused : (L a N n : ℕ) (t : Tree) → line-refusal L t ≡ some n → turns-outcome L a N t ≡ refuses n
 unfolding turns-outcome gives-unless
-turns-refused L N n t h = rw h
+turns-refused L a N n t h = rw h
 
 module _ (rows : List ℕ) where
   pub shown-refused-1 : (L : ℕ) → 63 < L → show-outcome L (tree-of rows) ≡ refuses 1
   shown-refused-1 L above = shown-refused L 1 (tree-of rows) (line-refused-1 L (tree-of rows) above)
 
-  pub turns-refused-1 : (L N : ℕ) → 63 < L → turns-outcome L N (tree-of rows) ≡ refuses 1
-  turns-refused-1 L N above = turns-refused L N 1 (tree-of rows) (line-refused-1 L (tree-of rows) above)
+  pub turns-refused-1 : (L a N : ℕ) → 63 < L → turns-outcome L a N (tree-of rows) ≡ refuses 1
+  turns-refused-1 L a N above = turns-refused L a N 1 (tree-of rows) (line-refused-1 L (tree-of rows) above)
 
   -- A record that is no tree
 
@@ -53,8 +53,8 @@ module _ (rows : List ℕ) where
     pub shown-on-illegal : (L : ℕ) → L ≤ 63 → show-outcome L (tree-of rows) ≡ refuses 4
     shown-on-illegal L number = shown-refused L 4 (tree-of rows) (line-refused-4 L (tree-of rows) number (closed-on-illegal L))
 
-    pub turns-on-illegal : (L N : ℕ) → L ≤ 63 → turns-outcome L N (tree-of rows) ≡ refuses 4
-    turns-on-illegal L N number = turns-refused L N 4 (tree-of rows) (line-refused-4 L (tree-of rows) number (closed-on-illegal L))
+    pub turns-on-illegal : (L a N : ℕ) → L ≤ 63 → turns-outcome L a N (tree-of rows) ≡ refuses 4
+    turns-on-illegal L a N number = turns-refused L a N 4 (tree-of rows) (line-refused-4 L (tree-of rows) number (closed-on-illegal L))
 
   -- A legal record
 
@@ -74,12 +74,12 @@ module _ (rows : List ℕ) where
       unfolding show-outcome gives-unless shown period-of start-of
       shown-on-record there = rw (allowed there, ← paths-on-record rows is-legal L (omega arith))
 
-      pub turns-on-record : (N : ℕ) → no-rows (path-at rows L) ≡ false → turns-outcome L N (tree-of rows) ≡ gives (N / product (path-at rows L) + 1)
-      unfolding turns-outcome gives-unless turns period-of
-      turns-on-record N there = rw (allowed there, ← paths-on-record rows is-legal L (omega arith))
+      pub turns-on-record : (a N : ℕ) → no-rows (path-at rows L) ≡ false → turns-outcome L a N (tree-of rows) ≡ gives (turns L a N (tree-of rows))
+      unfolding turns-outcome gives-unless
+      turns-on-record a N there = rw (allowed there)
 
       pub shown-refused-4 : no-rows (path-at rows L) ≡ true → show-outcome L (tree-of rows) ≡ refuses 4
       shown-refused-4 absent = shown-refused L 4 (tree-of rows) (refused absent)
 
-      pub turns-refused-4 : (N : ℕ) → no-rows (path-at rows L) ≡ true → turns-outcome L N (tree-of rows) ≡ refuses 4
-      turns-refused-4 N absent = turns-refused L N 4 (tree-of rows) (refused absent)
+      pub turns-refused-4 : (a N : ℕ) → no-rows (path-at rows L) ≡ true → turns-outcome L a N (tree-of rows) ≡ refuses 4
+      turns-refused-4 a N absent = turns-refused L a N 4 (tree-of rows) (refused absent)

@@ -60,9 +60,9 @@ pub owner-served : (round : ℕ) (rows : List ℕ) (a b : OwnerAnswer) (r : ℤ)
 unfolding owner-outcome
 owner-served round rows a b r asked told is = answer-read-back _ r is ∙ ap (λ (o : Option ℕ). answer-number (gives (line-or-64 o))) (ap owner-answer (sym told) ∙ asked)
 
-pub turns-served : (L N : ℕ) (t : Tree) (a b : TurnsAnswer) (r : ℤ) → turns-answer a ≡ turns-outcome L N t → a ≡ b →
-    IsAnswer (turns-answer b) r → toZ w64 (ofZ w64 r) ≡ answer-number (turns-outcome L N t)
-turns-served L N t a b r asked told is = answer-read-back _ r is ∙ ap answer-number (ap turns-answer (sym told) ∙ asked)
+pub turns-served : (L first N : ℕ) (t : Tree) (a b : TurnsAnswer) (r : ℤ) → turns-answer a ≡ turns-outcome L first N t → a ≡ b →
+    IsAnswer (turns-answer b) r → toZ w64 (ofZ w64 r) ≡ answer-number (turns-outcome L first N t)
+turns-served L first N t a b r asked told is = answer-read-back _ r is ∙ ap answer-number (ap turns-answer (sym told) ∙ asked)
 
 -- A call that writes what it gives into a lent record
 

@@ -1,4 +1,4 @@
--- An answer of a call tells its outcome, since no refusal is 0: the calls refuse with 1 to 9 alone, and no value is above 2^32.
+-- An answer of a call tells its outcome, since no refusal is 0: the calls refuse with 1 to 9 alone, and every value has 32 bits.
 -- Assumes nothing.
 use Prim.Native.Nat.{ℕ, zero, suc, _-_, _^_, _%_, _<_, _≤_}
 use native.Mathlib.Omega.{arith}
@@ -90,7 +90,7 @@ refused-in-range : (n : ℕ) → (0 < n) × (n < 10) → InRange (refuses n)
 unfolding InRange
 refused-in-range n small = (omega (arith, small .0), omega (arith, small .1))
 
-value-in-range : (o : Option ℕ) (n : ℕ) → Small o → n ≤ 2 ^ 32 → InRange (gives-unless o n)
+value-in-range : (o : Option ℕ) (n : ℕ) → Small o → n < 2 ^ 32 → InRange (gives-unless o n)
 unfolding Small InRange gives-unless
 value-in-range none n small most = most
 value-in-range (some k) n small most = refused-in-range k small
@@ -121,7 +121,7 @@ line-in-range : (round : ℕ) (t : Tree) → Legal t → InRange (gives (line-or
 unfolding InRange line-or-64
 line-in-range round t is-legal = by-owner (owner round t) refl
   where
-    by-owner : (o : Option ℕ) → owner round t ≡ o → line-or-64 o ≤ 2 ^ 32
+    by-owner : (o : Option ℕ) → owner round t ≡ o → line-or-64 o < 2 ^ 32
     by-owner none e = omega arith
     by-owner (some L) e = let below = owner-below-64 round t L is-legal e in omega arith
 
@@ -137,7 +137,7 @@ tree-in-range : (rows : List ℕ) → InRange (tree-outcome rows)
 unfolding InRange tree-outcome
 tree-in-range rows = by-test (legal rows)
   where
-    by-test : (b : Bool) → (if b then 1 else 0) ≤ 2 ^ 32
+    by-test : (b : Bool) → (if b then 1 else 0) < 2 ^ 32
     by-test true = omega arith
     by-test false = omega arith
 
@@ -154,9 +154,9 @@ pub tree-tells : (rows : List ℕ) (r : ℤ) → r ≡ answer-number (tree-outco
 tree-tells rows r is = tells _ r (tree-in-range rows) is
 
 -- the rounds of turns are a number of 32 bits
-pub turns-tells : (L N : ℕ) (t : Tree) (r : ℤ) → N < 2 ^ 32 → r ≡ answer-number (turns-outcome L N t) → Tells (turns-outcome L N t) r
+pub turns-tells : (L a N : ℕ) (t : Tree) (r : ℤ) → N < 2 ^ 32 → r ≡ answer-number (turns-outcome L a N t) → Tells (turns-outcome L a N t) r
 unfolding turns-outcome
-turns-tells L N t r below is = tells _ r (value-in-range _ _ (line-small L t) (omega (arith, turns-at-most L N t))) is
+turns-tells L a N t r below is = tells _ r (value-in-range _ _ (line-small L t) (omega (arith, turns-at-most L a N t))) is
 
 pub show-tells : (rows : List ℕ) (L : ℕ) (before after : List ℕ) (r : ℤ) → ShowServed rows L before after r → Tells (zero-value (show-outcome L (tree-of rows))) r
 unfolding show-outcome

@@ -1,20 +1,20 @@
 -- The values that calls give, with their bounds: a line, a turns figure, the line of an order that was read.
 -- Assumes nothing.
 use Prim.Native.Nat.{ℕ, zero, suc, _+_, _<_, _≤_}
-use native.Mathlib.Nat.{div-le-self}
 use native.Mathlib.Omega.{arith}
 use mathlib.Core.Path.{_≡_, refl, _∙_, ap}
 use mathlib.Core.Bool.{Bool, true, false}
 use mathlib.Core.Option.{Option, none, some}
 use Rattle.tree.specs.Search.{if_then_else_}
-use Rattle.tree.specs.Tree.{Tree, period-of}
+use Rattle.tree.specs.Tree.{Tree}
 use Rattle.tree.specs.Shape.{Legal}
-use Rattle.tree.specs.Asking.{owner, turns}
+use Rattle.tree.specs.Asking.{owner, owns, turns}
 use Rattle.tree.specs.Refusals.{line-refusal}
 use Rattle.tree.specs.Calls.{Call, gives, refuses, gives-unless, turns-outcome}
 use Rattle.tree.proofs.Proper.{legal-proper}
 use Rattle.tree.proofs.Numbering.{stands-number}
 use Rattle.tree.proofs.Ownership.{walk-owns}
+use Rattle.tree.proofs.Totals.{count-at-most}
 use Rattle.plan.specs.declared.walker.WalkerPlace.{WalkerPlace}
 use Rattle.plan.specs.Walker.{at-end, walk-outcome}
 use Rattle.orders.specs.Order.{kind, line, period}
@@ -42,14 +42,14 @@ walked-below-64 place t L is-legal = by-end (at-end place)
     by-end true walked = let z : _≡_ {A = ℕ} 0 1 = cc in absurd (omega arith)
     by-end false walked = owner-below-64 (place .next) t L is-legal cc
 
--- a turns figure is at most one more than the rounds
-pub turns-at-most : (L N : ℕ) (t : Tree) → turns L N t ≤ N + 1
+-- a line has at most as many turns as there are rounds
+pub turns-at-most : (L a N : ℕ) (t : Tree) → turns L a N t ≤ N
 unfolding turns
-turns-at-most L N t = let most = div-le-self N (period-of L t) in omega arith
+turns-at-most L a N t = count-at-most N (λ i. owns L (a + i) t)
 
-pub turns-given : (L N : ℕ) (t : Tree) (n : ℕ) → gives n ≡ turns-outcome L N t → n ≤ N + 1
+pub turns-given : (L a N : ℕ) (t : Tree) (n : ℕ) → gives n ≡ turns-outcome L a N t → n ≤ N
 unfolding turns-outcome
-turns-given L N t n given = rw (given-value (line-refusal L t) (turns L N t) n given) (turns-at-most L N t)
+turns-given L a N t n given = rw (given-value (line-refusal L t) (turns L a N t) n given) (turns-at-most L a N t)
 
 -- the line of an order that is read has 6 bits
 call-line : (k L p : ℕ) → line-of (call-of k L p) ≡ L

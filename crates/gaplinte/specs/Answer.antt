@@ -1,6 +1,6 @@
 -- The answer of a call of the library is one signed number: its value, or minus the number with which the call is refused.
 -- Assumes nothing.
-use Prim.Native.Nat.{ℕ, suc, _^_, _%_, _≤_}
+use Prim.Native.Nat.{ℕ, suc, _^_, _%_, _<_, _≤_}
 use mathlib.Core.Path.{_≡_}
 use mathlib.Core.List.{List}
 use lib.IntN.{ℤ, pos, negsuc, negℤ}
@@ -33,9 +33,9 @@ unfoldable pub outcome-told : ℤ → Outcome ℕ
 outcome-told (pos n) = gives n
 outcome-told (negsuc n) = refuses (suc n)
 
--- A refusal is one of document 01's numbers, 1 to 9, as demand 1 asks of every call. A value is at most 2^32.
+-- A refusal is one of document 01's numbers, 1 to 9, as demand 1 asks of every call. A value has 32 bits.
 unfoldable pub InRange : Outcome ℕ → Type 0
-InRange (gives n) = n ≤ 2 ^ 32
+InRange (gives n) = n < 2 ^ 32
 InRange (refuses n) = (1 ≤ n) × (n ≤ 9)
 
 -- an answer tells its outcome, and the outcome is in range

@@ -20,12 +20,12 @@ pub extern "C" fn gaplinte_owner(rows: &[u16; 1408], round: u64) -> i64
     }
 }
 
-// Turns of a line in so many rounds.
+// Turns: how many of so many rounds from the first on a line owns.
 #[no_mangle]
-pub extern "C" fn gaplinte_turns(rows: &[u16; 1408], line: u64, rounds: u32) -> i64
-    ensures { λ r. ⌜ r ≡ answer-number (turns-outcome line rounds (tree-of (now (rows .entry)))) ⌝ }
+pub extern "C" fn gaplinte_turns(rows: &[u16; 1408], line: u64, first: u64, rounds: u32) -> i64
+    ensures { λ r. ⌜ r ≡ answer-number (turns-outcome line first rounds (tree-of (now (rows .entry)))) ⌝ }
 {
-    let answer = plan::ask::turns_rows(rows, line, rounds);
+    let answer = plan::ask::turns_rows(rows, line, first, rounds);
     match answer {
         TurnsAnswer::Count(count) => answers::value(count),
         TurnsAnswer::Refused(number) => answers::refused(number),

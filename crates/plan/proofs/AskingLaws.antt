@@ -1,13 +1,14 @@
 -- The ways that show and turns can go on a plan record.
 -- Assumes nothing.
-use Prim.Native.Nat.{ℕ, _+_, _/_, _<_, _≤_}
-use mathlib.Core.Path.{_≡_, sym, ap}
-use mathlib.Core.Bool.{true, false}
+use Prim.Native.Nat.{ℕ, _<_, _≤_}
+use native.Mathlib.Omega.{arith}
+use mathlib.Core.Path.{_≡_, sym, _∙_, ap}
+use mathlib.Core.Bool.{true, false, not}
 use mathlib.Core.List.{List, []}
 use mathlib.Core.Logic.{⊎-elim}
 use Rattle.tree.specs.declared.Period.{Period}
 use Rattle.tree.specs.declared.Start.{Start}
-use Rattle.tree.specs.Tree.{Tree, product, sum}
+use Rattle.tree.specs.Tree.{Tree, product, sum, is-open, period-of, start-of}
 use Rattle.tree.specs.Asking.{rows-11}
 use Rattle.tree.specs.Calls.{gives, refuses, show-outcome, turns-outcome}
 use Rattle.tree.specs.Record.{path-at, no-rows, legal}
@@ -15,7 +16,10 @@ use Rattle.paths.specs.declared.Found.the-variants.{At, Nothing}
 use Rattle.paths.proofs.PathLength.{lookup-nothing, lookup-at}
 use Rattle.paths.proofs.PathRest.{path-rest-start, path-rest-product}
 use Rattle.bridge.specs.Rows.{tree-of}
+use Rattle.bridge.proofs.TreeOfRecord.{legal-on-record, paths-on-record, open-on-record}
 use Rattle.bridge.proofs.AskingRecords.{shown-refused-1, shown-refused-4, shown-on-illegal, shown-on-record, turns-refused-1, turns-refused-4, turns-on-illegal, turns-on-record}
+use Rattle.asking.specs.Turns.{turns-in}
+use Rattle.asking.proofs.TurnsByDivision.{turns-by-division}
 use Rattle.plan.specs.declared.ask.ShowAnswer.the-variants.{Times, Refused}
 use Rattle.plan.specs.Lookup.{line-found}
 use Rattle.plan.specs.Ask.{show-answer, rows-beside, ShownAs}
@@ -32,7 +36,7 @@ module _ (rows : List ℕ) where
   pub shown-above : (L : ℕ) → 63 < L → ShownAs L (tree-of rows) (Refused 1) (rows-11 [])
   shown-above L above = shown-refused L 1 (tree-of rows) (shown-refused-1 rows L above)
 
-  pub turns-above : (L N : ℕ) → 63 < L → turns-outcome L N (tree-of rows) ≡ refuses 1
+  pub turns-above : (L a N : ℕ) → 63 < L → turns-outcome L a N (tree-of rows) ≡ refuses 1
   turns-above = turns-refused-1 rows
 
   module _ (L : ℕ) (number : L ≤ 63) where
@@ -41,8 +45,8 @@ module _ (rows : List ℕ) where
     pub shown-absent : line-found rows L ≡ Nothing → ShownAs L (tree-of rows) (Refused 4) (rows-11 [])
     shown-absent absent = shown-refused L 4 (tree-of rows) (⊎-elim (λ w. shown-refused-4 rows (w .0) L number (lookup-nothing (path-at rows L) (w .1))) (λ illegal. shown-on-illegal rows illegal L number) (absent-or-no-tree rows L absent))
 
-    pub turns-absent : (N : ℕ) → line-found rows L ≡ Nothing → turns-outcome L N (tree-of rows) ≡ refuses 4
-    turns-absent N absent = ⊎-elim (λ w. turns-refused-4 rows (w .0) L number N (lookup-nothing (path-at rows L) (w .1))) (λ illegal. turns-on-illegal rows illegal L N number) (absent-or-no-tree rows L absent)
+    pub turns-absent : (a N : ℕ) → line-found rows L ≡ Nothing → turns-outcome L a N (tree-of rows) ≡ refuses 4
+    turns-absent a N absent = ⊎-elim (λ w. turns-refused-4 rows (w .0) L number a N (lookup-nothing (path-at rows L) (w .1))) (λ illegal. turns-on-illegal rows illegal L a N number) (absent-or-no-tree rows L absent)
 
     -- an open line
 
@@ -59,8 +63,14 @@ module _ (rows : List ℕ) where
           let outcome = shown-on-record rows found-legal L number has-rows in
           record { answer-is = rw (period-is, start-is) (sym outcome); rows-are = sym (ap rows-beside outcome) }
 
-      pub turns-found : (N : ℕ) → turns-outcome L N (tree-of rows) ≡ gives (N / product (path-at rows L) + 1)
-      turns-found N = turns-on-record rows found-legal L number N has-rows
+      is-there : is-open L (tree-of rows) ≡ true
+      is-there = open-on-record rows found-legal L (omega arith) ∙ ap not has-rows
+
+      pub turns-found : (a N : ℕ) → turns-outcome L a N (tree-of rows) ≡ gives (turns-in (product (path-at rows L)) (sum (path-at rows L)) a N)
+      unfolding period-of start-of
+      turns-found a N =
+          let by-division = turns-by-division (tree-of rows) (legal-on-record rows) L is-there a N in
+          turns-on-record rows found-legal L number a N has-rows ∙ ap gives (rw (← paths-on-record rows found-legal L (omega arith)) at by-division)
 
 -- a period is at least 1
 pub period-positive : (rows : List ℕ) (L : ℕ) → 1 ≤ product (path-at rows L)

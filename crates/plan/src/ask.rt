@@ -32,7 +32,7 @@ pub struct Showing {
     pub rows: [Row; 11],
 }
 
-// Turns in so many rounds, or the number with which the call is refused.
+// The number of turns, or the number with which the call is refused.
 pub enum TurnsAnswer {
     Count(u64),
     Refused(u8),
@@ -99,9 +99,10 @@ pub fn show(plan: Plan, line: u64) -> Showing
     show_rows(&plan.rows, line)
 }
 
-// Turns of a line in so many rounds by a record that is lent, or a refusal with 1 or 4.
-pub fn turns_rows(rows: &[u16; 1408], line: u64, rounds: u32) -> TurnsAnswer
-    ensures { λ r. ⌜ turns-answer r ≡ turns-outcome line rounds (tree-of (now (rows .entry))) ⌝ }
+// Turns by a record that is lent: how many of so many rounds from the first on a line owns, or a refusal with 1 or 4. The
+// rounds are whole numbers and may pass 2^64.
+pub fn turns_rows(rows: &[u16; 1408], line: u64, first: u64, rounds: u32) -> TurnsAnswer
+    ensures { λ r. ⌜ turns-answer r ≡ turns-outcome line first rounds (tree-of (now (rows .entry))) ⌝ }
 {
     if 63 < line {
         return TurnsAnswer::Refused(1);
@@ -112,13 +113,13 @@ pub fn turns_rows(rows: &[u16; 1408], line: u64, rounds: u32) -> TurnsAnswer
         return TurnsAnswer::Refused(4);
     };
     let times = asking::times_of(rows, at);
-    let count = asking::turns_of(times.period, rounds);
+    let count = asking::turns_of(times, first, rounds);
     TurnsAnswer::Count(count)
 }
 
 // The same with a plan by value.
-pub fn turns(plan: Plan, line: u64, rounds: u32) -> TurnsAnswer
-    ensures { λ r. ⌜ turns-answer r ≡ turns-outcome line rounds (treeOf plan) ⌝ }
+pub fn turns(plan: Plan, line: u64, first: u64, rounds: u32) -> TurnsAnswer
+    ensures { λ r. ⌜ turns-answer r ≡ turns-outcome line first rounds (treeOf plan) ⌝ }
 {
-    turns_rows(&plan.rows, line, rounds)
+    turns_rows(&plan.rows, line, first, rounds)
 }

@@ -2,15 +2,18 @@
 -- Assumes nothing.
 use Prim.Native.Nat.{ℕ, _+_, _*_, _/_, _%_}
 use native.Mathlib.Nat.{mod-lt, mod-one}
-use mathlib.Core.Path.{_≡_, refl, ap}
+use mathlib.Core.Path.{_≡_, refl, sym, _∙_, ap}
 use mathlib.Core.Logic.{_↔_}
-use mathlib.Core.Option.{some, Option·none-ne-some}
+use mathlib.Core.Bool.{Bool, true, false, false≢true}
+use mathlib.Core.Option.{Option, none, some, Option·none-ne-some}
+use lib.Dec.{eqb}
+use borrow.Author.Tests.{eqb-true, eqb-false, eq-eqb}
 use Rattle.tree.specs.Tree.{Tree, nothing, line, node}
 use Rattle.tree.specs.Standing.{Stands}
-use Rattle.tree.specs.Asking.{owner}
+use Rattle.tree.specs.Asking.{owner, is-line, owns}
 use Rattle.tree.proofs.Digits.{digit}
 use Rattle.tree.proofs.Proper.{Proper}
-use Rattle.tree.proofs.Standing.{start-below-period}
+use Rattle.tree.proofs.Standing.{start-below-period, stands-once}
 
 -- line L stands where round n leads
 pub record Owns (L n : ℕ) (t : Tree) : Type 0 where
@@ -63,3 +66,25 @@ no-two-owners L M n t a b =
     let by-L = stands-walk L n t (a .period) (a .start) (a .stands) (a .fits) in
     let by-M = stands-walk M n t (b .period) (b .start) (b .stands) (b .fits) in
     cc
+
+-- The test that turns counts by
+
+pub owns-exactly : (L n : ℕ) (t : Tree) → (owns L n t ≡ true) ↔ (owner n t ≡ some L)
+unfolding owns is-line
+owns-exactly L n t = by-owner (owner n t)
+  where
+    by-owner : (o : Option ℕ) → (is-line L o ≡ true) ↔ (o ≡ some L)
+    by-owner none = (λ h. absurd (false≢true h), λ h. absurd (Option·none-ne-some L h))
+    by-owner (some M) = (λ h. ap some (eqb-true M L h), λ h. eq-eqb M L cc)
+
+-- a line that stands in the tree owns the rounds that fit its period and start
+pub owns-by-times : (L n : ℕ) (t : Tree) (q u : ℕ) → Proper t → Stands L t q u → owns L n t ≡ eqb (n % q) u
+owns-by-times L n t q u proper stands = by-test (eqb (n % q) u) refl (owns L n t) refl
+  where
+    by-test : (fits : Bool) → eqb (n % q) u ≡ fits → (found : Bool) → owns L n t ≡ found → found ≡ fits
+    by-test true e found f = sym f ∙ owns-exactly L n t .1 (stands-walk L n t q u stands (eqb-true _ _ e))
+    by-test false e false f = refl
+    by-test false e true f =
+        let owner = walk-owns L n t proper (owns-exactly L n t .0 f) in
+        let same = stands-once L t (owner .period) (owner .start) q u proper (owner .stands) stands in
+        absurd (eqb-false _ _ e (rw (same .0, same .1) at (owner .fits)))

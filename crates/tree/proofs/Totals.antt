@@ -6,7 +6,8 @@ use native.Mathlib.Nat.{suc-mul}
 use native.Mathlib.Decide.{ℕ-discrete}
 use mathlib.Core.Path.{_≡_, refl, ap}
 use mathlib.Core.Logic.{inl, inr}
-use Rattle.tree.specs.Search.{total-below}
+use mathlib.Core.Bool.{Bool, true, false}
+use Rattle.tree.specs.Search.{if_then_else_, total-below, count-below}
 use Rattle.tree.proofs.Searching.{last-or-below}
 
 -- n numbers that count at most b each
@@ -52,3 +53,13 @@ unfolding total-below
 total-exchange zero m count = omega (arith, total-at-most m (λ k. 0) 0 (λ i l. omega arith))
 total-exchange (suc n) m count =
     omega (arith, total-exchange n m count, total-plus m (λ k. total-below n (λ i. count i k)) (count n))
+
+-- Counts
+
+pub count-at-most : (n : ℕ) (test : ℕ → Bool) → count-below n test ≤ n
+unfolding count-below
+count-at-most n test = omega (arith, total-at-most n (λ i. if test i then 1 else 0) 1 (λ i below. at-most-1 (test i)))
+  where
+    at-most-1 : (b : Bool) → (if b then 1 else 0) ≤ 1
+    at-most-1 true = omega arith
+    at-most-1 false = omega arith

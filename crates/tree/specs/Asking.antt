@@ -1,11 +1,14 @@
--- Asking the plan (document 01, Asking the plan).
+-- Asking the plan (document 01, Asking the plan; turns by document 02, Ask 1).
 -- Assumes nothing.
 use Prim.Native.Nat.{ℕ, _+_, _*_, _/_, _%_}
 use mathlib.Core.Path.{_≡_}
+use mathlib.Core.Bool.{Bool, false}
 use mathlib.Core.List.{List, [], _∷_, _++_}
 use mathlib.Core.Option.{Option, none, some}
+use lib.Dec.{eqb}
 use lib.ListN.{take, replicate}
 use Rattle.tree.specs.declared.Row.{Row}
+use Rattle.tree.specs.Search.{count-below}
 use Rattle.tree.specs.Tree.{Tree, nothing, line, node, row, path-of, period-of, start-of, Place, way}
 
 -- (Asking the plan, 1, 2) Owner: at a node of weight w the round selects edge t mod w, and t div w goes on below it. No line found is idle.
@@ -41,6 +44,15 @@ pub record Shown : Type 0 where
 unfoldable pub shown : ℕ → Tree → Shown
 shown L t = record { period = period-of L t; start = start-of L t; rows = rows-11 (path-of L t) }
 
--- (Asking the plan, 4) Turns of a line in N rounds.
-unfoldable pub turns : ℕ → ℕ → Tree → ℕ
-turns L N t = N / period-of L t + 1
+-- the line found is L
+unfoldable pub is-line : ℕ → Option ℕ → Bool
+is-line L none = false
+is-line L (some M) = eqb M L
+
+-- (Ask 1, 2) Line L owns round n: it is the line that the walk for the round finds.
+unfoldable pub owns : ℕ → ℕ → Tree → Bool
+owns L n t = is-line L (owner n t)
+
+-- (Ask 1, 2, 3) Turns of line L: how many of the N rounds from a on it owns. A round is a whole number, without a bound.
+unfoldable pub turns : ℕ → ℕ → ℕ → Tree → ℕ
+turns L a N t = count-below N (λ i. owns L (a + i) t)

@@ -67,6 +67,6 @@ gives-unless none a = gives a
 unfoldable pub show-outcome : ℕ → Tree → Outcome Shown
 show-outcome L t = gives-unless (line-refusal L t) (shown L t)
 
--- (Asking the plan, 4)
-unfoldable pub turns-outcome : ℕ → ℕ → Tree → Outcome ℕ
-turns-outcome L N t = gives-unless (line-refusal L t) (turns L N t)
+-- (Ask 1, 2)
+unfoldable pub turns-outcome : ℕ → ℕ → ℕ → Tree → Outcome ℕ
+turns-outcome L a N t = gives-unless (line-refusal L t) (turns L a N t)

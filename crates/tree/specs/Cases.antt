@@ -1,4 +1,4 @@
--- The joint table: document 01's marked cases A to I, without the printing, as calls with the answers that it marks; then three cases of our own.
+-- The joint table: document 01's marked cases A to I, without the printing, as calls with the answers that it marks; then four cases of our own.
 -- Each case begins at the empty plan. The one proof over the whole table is in proofs/JointTable.antt.
 -- Assumes nothing.
 use Prim.Native.Nat.{ℕ}
@@ -16,7 +16,7 @@ pub data Step : Type 0 where
   closes : ℕ → Answer → Step
   owner-of : ℕ → Option ℕ → Step
   show : ℕ → Outcome Shown → Step
-  turns-of : ℕ → ℕ → Outcome ℕ → Step
+  turns-of : ℕ → ℕ → ℕ → Outcome ℕ → Step
   nodes-above : ℕ → ℕ → Step
 
 -- the same call or question, with the answer that the definitions give in tree t
@@ -25,7 +25,7 @@ answered t (opens L p a) = opens L p (answer (open-line L p) t)
 answered t (closes L a) = closes L (answer (close-line L) t)
 answered t (owner-of n a) = owner-of n (owner n t)
 answered t (show L a) = show L (show-outcome L t)
-answered t (turns-of L N a) = turns-of L N (turns-outcome L N t)
+answered t (turns-of L first N a) = turns-of L first N (turns-outcome L first N t)
 answered t (nodes-above L a) = nodes-above L (length (path-of L t))
 
 -- the tree that it leaves
@@ -34,7 +34,7 @@ next t (opens L p a) = after (open-line L p) t
 next t (closes L a) = after (close-line L) t
 next t (owner-of n a) = t
 next t (show L a) = t
-next t (turns-of L N a) = t
+next t (turns-of L first N a) = t
 next t (nodes-above L a) = t
 
 -- a whole case answered by the definitions, from tree t
@@ -67,7 +67,7 @@ questions-A =
     ∷ owner-of 9 none
     ∷ show 1 (shows 4 0 (row 2 0 ∷ row 2 0 ∷ []))
     ∷ show 4 (shows 12 3 (row 2 1 ∷ row 3 1 ∷ row 2 0 ∷ []))
-    ∷ turns-of 4 100 (gives 9)
+    ∷ turns-of 4 0 100 (gives 9)
     ∷ []
 
 unfoldable pub case-A : List Step
@@ -154,9 +154,24 @@ checks-in-sequence =
     ∷ opens 5 3 (refused 3)
     ∷ show 64 (refuses 1)
     ∷ show 6 (refuses 4)
-    ∷ turns-of 64 7 (refuses 1)
-    ∷ turns-of 6 7 (refuses 4)
+    ∷ turns-of 64 0 7 (refuses 1)
+    ∷ turns-of 6 0 7 (refuses 4)
     ∷ []
+
+-- ours: turns from a round on, in case A's plan. The first round is a turn; it is past the start; the rounds end before the next turn; there are none; they
+-- pass 2^64, where line 2 owns the whole number 2^64 + 3.
+unfoldable pub turns-from-a-round : List Step
+turns-from-a-round =
+    bookings-A
+    ++ (turns-of 4 3 12 (gives 1)
+    ∷ turns-of 4 3 13 (gives 2)
+    ∷ turns-of 4 4 12 (gives 1)
+    ∷ turns-of 4 4 11 (gives 0)
+    ∷ turns-of 4 3 0 (gives 0)
+    ∷ turns-of 2 18446744073709551615 4 (gives 0)
+    ∷ turns-of 2 18446744073709551615 5 (gives 1)
+    ∷ turns-of 2 18446744073709551615 11 (gives 2)
+    ∷ [])
 
 unfoldable pub cases : List (List Step)
 cases =
@@ -172,4 +187,5 @@ cases =
     ∷ split-keeps-starts
     ∷ emptied-is-fresh
     ∷ checks-in-sequence
+    ∷ turns-from-a-round
     ∷ []

@@ -40,3 +40,7 @@ all-below n test = not (some-below n (λ i. not (test i)))
 unfoldable pub total-below : ℕ → (ℕ → ℕ) → ℕ
 total-below zero count = 0
 total-below (suc n) count = total-below n count + count n
+
+-- how many numbers below n pass the test
+unfoldable pub count-below : ℕ → (ℕ → Bool) → ℕ
+count-below n test = total-below n (λ i. if test i then 1 else 0)

@@ -1,10 +1,30 @@
--- `asking::turns_of` meets its contract: a quotient is at most the number divided.
+-- `asking::turns_of` meets its contract: the rounds end before the next turn, or come to it. A quotient is at most the number divided.
 -- Assumes nothing.
+use Prim.Native.Nat.{_+_, _-_}
 use native.Mathlib.Nat.{div-le-self}
 use native.Mathlib.Omega.{arith}
+use mathlib.Core.Path.{_≡_}
 use borrow.Author.Needs.{needs}
+use borrow.Author.Tests.{lt-ltb, le-ltb}
+use Rattle.asking.specs.Turns.{turns-in}
+use Rattle.asking.proofs.TurnsByDivision.{until-below}
 use Rattle.asking.proofs.turns_of.Statement.{statement}
 use Rattle.asking.proofs.turns_of.Tie as tie
+
+until-turn-requires : tie.Need-until-turn-requires
+until-turn-requires c κs = search needs
+
+-- the next turn is less than a period away
+add-needed : tie.Need-add-needed
+add-needed c =
+    let start = c .before in
+    omega (arith, c .until-turn .ensures, until-below (start .args .times .period .0) (start .args .times .start .0) (start .args .first) (start .pre))
+
+returns : tie.Need-returns
+unfolding turns-in
+returns c =
+    let after-until = c .before in
+    rw (← after-until .until-turn .ensures, le-ltb (after-until .until-turn .result) (after-until .before .args .rounds) (omega arith))
 
 cast-result : tie.Need-cast-result
 cast-result c = search needs
@@ -13,10 +33,21 @@ div-result : tie.Need-div-result
 div-result c = search needs
 
 add-result : tie.Need-add-result
-add-result c = omega (arith, div-le-self (c .before .args .rounds) (c .before .args .period .0))
+add-result c =
+    let after-until = c .before .before in
+    let start = after-until .before in
+    omega (arith, div-le-self (start .args .rounds - (after-until .until-turn .result + 1)) (start .args .times .period .0))
 
-returns : tie.Need-returns
-returns c = search needs
+returns-2 : tie.Need-returns-2
+unfolding turns-in
+returns-2 c =
+    let after-until = c .before .before in
+    let all = after-until .before .args .rounds in
+    let until = after-until .until-turn .result in
+    let same : all - (until + 1) ≡ all - 1 - until = omega arith in
+    rw (← after-until .until-turn .ensures, lt-ltb until all (omega arith), same)
 
 pub turns-of-spec : {M : Type 1} → statement M
-turns-of-spec = tie.close (tie.spec cast-result div-result add-result returns)
+turns-of-spec =
+    tie.close
+    (tie.spec until-turn-requires add-needed returns cast-result div-result add-result returns-2)

@@ -1,4 +1,4 @@
--- `gaplinte::ask::gaplinte_turns` meets its contract, by that of `plan::ask::turns_rows`: the figure is at most 2^32.
+-- `gaplinte::ask::gaplinte_turns` meets its contract, by that of `plan::ask::turns_rows`: the turns are at most the rounds.
 -- Assumes nothing.
 use native.Mathlib.Omega.{arith}
 use mathlib.Core.Path.{sym, _∙_, ap}
@@ -20,7 +20,7 @@ unfolding turns-answer
 value-requires c κs =
     let count = c .before in
     let asked = count .before .before in
-    omega (arith, turns-given _ _ _ _ (sym (ap turns-answer (count .answer .given .1)) ∙ asked .turns-rows .ensures), asked .before .fits .rounds .fits)
+    omega (arith, turns-given _ _ _ _ _ (sym (ap turns-answer (count .answer .given .1)) ∙ asked .turns-rows .ensures), asked .before .fits .rounds .fits)
 
 enum-known-answer-2 : tie.Need-enum-known-answer-2
 enum-known-answer-2 c = search needs
@@ -32,13 +32,13 @@ returns : tie.Need-returns
 unfolding turns-answer
 returns c =
     let count = c .before .before in
-    turns-served _ _ _ _ _ _ (count .before .before .turns-rows .ensures) (count .answer .given .1) (c .value .ensures)
+    turns-served _ _ _ _ _ _ _ (count .before .before .turns-rows .ensures) (count .answer .given .1) (c .value .ensures)
 
 returns-2 : tie.Need-returns-2
 unfolding turns-answer
 returns-2 c =
     let match = c .before .before in
-    turns-served _ _ _ _ _ _ (match .before .before .turns-rows .ensures) (match .answer2 .given .1) (c .refused .ensures)
+    turns-served _ _ _ _ _ _ _ (match .before .before .turns-rows .ensures) (match .answer2 .given .1) (c .refused .ensures)
 
 pub gaplinte-turns-spec : {M : Type 1} → statement M
 gaplinte-turns-spec =

@@ -10,7 +10,7 @@ use Rattle.plan.proofs.ask.turns_rows.Tie as tie
 
 returns : tie.Need-returns
 unfolding turns-answer
-returns c = sym (turns-above _ _ _ (c .if1 .taken))
+returns c = sym (turns-above _ _ _ _ (c .if1 .taken))
 
 find-line-requires : tie.Need-find-line-requires
 find-line-requires c κs = search needs
@@ -26,7 +26,7 @@ unfolding turns-answer
 returns-2 c =
     let after-find = c .before .before in
     let number = after-find .before .if1 .left in
-    sym (turns-absent _ _ number _ (sym (after-find .find-line .ensures) ∙ c .enum-told2 .given .1))
+    sym (turns-absent _ _ number _ _ (sym (after-find .find-line .ensures) ∙ c .enum-told2 .given .1))
 
 times-of-requires : tie.Need-times-of-requires
 times-of-requires c κs =
@@ -46,8 +46,8 @@ returns-3 c =
     let told = after-times .before in
     let after-find = told .before .before in
     let number = after-find .before .if1 .left in
-    rw (c .turns-of .ensures, after-times .times-of .ensures .0)
-    (sym (turns-found _ _ number _ (sym (after-find .find-line .ensures) ∙ told .enum-told .given .1) _))
+    rw (c .turns-of .ensures, after-times .times-of .ensures .0, after-times .times-of .ensures .1)
+    (sym (turns-found _ _ number _ (sym (after-find .find-line .ensures) ∙ told .enum-told .given .1) _ _))
 
 pub turns-rows-spec : {M : Type 1} → statement M
 turns-rows-spec =
