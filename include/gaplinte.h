@@ -156,9 +156,10 @@ GAPLINTE_NODISCARD int64_t gaplinte_owner(const gaplinte_plan *plan, uint64_t ro
 /* Shows a line: its period, start and path are written. The value is 0. Refused with 1 or 4. */
 GAPLINTE_NODISCARD int64_t gaplinte_show(const gaplinte_plan *plan, uint64_t line, gaplinte_shown *shown);
 
-/* The turns of a line in so many rounds one after the other. The value is a figure that they do not exceed, at most
- * 2^32. Refused with 1 or 4. */
-GAPLINTE_NODISCARD int64_t gaplinte_turns(const gaplinte_plan *plan, uint64_t line, uint32_t rounds);
+/* The turns of a line. The value is exactly how many of so many rounds from the first on the line owns, at most
+ * 2^32 - 1. Rounds are whole numbers: those from 2^64 on count too, though no uint64_t holds them. 0 rounds give 0.
+ * Refused with 1 or 4. */
+GAPLINTE_NODISCARD int64_t gaplinte_turns(const gaplinte_plan *plan, uint64_t line, uint64_t first, uint32_t rounds);
 
 /* The walker. The value is the owner of the next round, a line or GAPLINTE_IDLE; the place moves on by that round, and
  * its count by 1 where the round is owned. Refused with 9 where either number is 2^64 - 1. */

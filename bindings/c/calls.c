@@ -38,8 +38,31 @@ static void ask(void) {
     EXPECT(gaplinte_owner(&plan, 7), 2);
     EXPECT(gaplinte_owner(&plan, 10), GAPLINTE_IDLE);
     EXPECT(gaplinte_owner(&plan, UINT64_MAX), 4);
-    EXPECT(gaplinte_turns(&plan, 4, 100), 9);
-    EXPECT(gaplinte_turns(&plan, 3, 100), -GAPLINTE_LINE_NOT_OPEN);
+}
+
+/* Line 4 has period 12 and start 3: it owns rounds 3, 15, 27 .. 87, 99. */
+static void turns(void) {
+    EXPECT(gaplinte_turns(&plan, 4, 0, 99), 8);
+    EXPECT(gaplinte_turns(&plan, 4, 0, 100), 9);
+    EXPECT(gaplinte_turns(&plan, 4, 4, 11), 0);
+    EXPECT(gaplinte_turns(&plan, 4, 4, 12), 1);
+    EXPECT(gaplinte_turns(&plan, 4, 15, 0), 0);
+    EXPECT(gaplinte_turns(&plan, 4, 15, 1), 1);
+    EXPECT(gaplinte_turns(&plan, 3, 0, 100), -GAPLINTE_LINE_NOT_OPEN);
+    EXPECT(gaplinte_turns(&plan, 3, 0, 0), -GAPLINTE_LINE_NOT_OPEN);
+    EXPECT(gaplinte_turns(&plan, 64, 0, 100), -GAPLINTE_LINE_ABOVE_63);
+}
+
+/* 2^32 and 2^64 divided by 12 leave 4, and 2^64 divided by 6 too. So line 4 owns 2^32 + 11, 2^64 - 1 and 2^64 + 11, and
+ * line 2 (period 6, start 1) owns 2^64 + 3. With rounds cut to 32 or 64 bits they would own others. */
+static void turns_past_32_and_64_bits(void) {
+    EXPECT(gaplinte_turns(&plan, 4, UINT64_C(4294967296), 11), 0);
+    EXPECT(gaplinte_turns(&plan, 4, UINT64_C(4294967296), 12), 1);
+    EXPECT(gaplinte_turns(&plan, 4, UINT64_MAX, 1), 1);
+    EXPECT(gaplinte_turns(&plan, 4, UINT64_MAX, 12), 1);
+    EXPECT(gaplinte_turns(&plan, 4, UINT64_MAX, 13), 2);
+    EXPECT(gaplinte_turns(&plan, 2, UINT64_MAX, 4), 0);
+    EXPECT(gaplinte_turns(&plan, 2, UINT64_MAX, 5), 1);
 }
 
 /* The plan has the path that show gives, and a line that is not open has none. */
@@ -73,11 +96,13 @@ static void walk(void) {
     EXPECT((int64_t)place.owned, 2);
 }
 
-/* The longest figure of turns has 33 bits. */
+/* Every round is a turn. */
 static void every_round(void) {
     memset(&plan, 0, sizeof plan);
     EXPECT(gaplinte_open(&plan, 63, 1), 0);
-    EXPECT(gaplinte_turns(&plan, 63, UINT32_MAX), INT64_C(4294967296));
+    EXPECT(gaplinte_turns(&plan, 63, 0, UINT32_MAX), UINT32_MAX);
+    EXPECT(gaplinte_turns(&plan, 63, UINT64_MAX, UINT32_MAX), UINT32_MAX);
+    EXPECT(gaplinte_turns(&plan, 63, UINT64_MAX, 0), 0);
     EXPECT(gaplinte_owner(&plan, UINT64_MAX), 63);
 }
 
@@ -159,7 +184,8 @@ static void narrowed(void) {
     }
     EXPECT(gaplinte_refusal(0), 0);
     EXPECT(gaplinte_refusal(4095), 0);
-    EXPECT(gaplinte_refusal(INT64_C(4294967296)), 0);
+    /* The largest value, which would be -1 in 32 bits. */
+    EXPECT(gaplinte_refusal(UINT32_MAX), 0);
 }
 
 /* Each refusal has a text of its own; a value has one, and so has every number that no call answers. */
@@ -190,7 +216,7 @@ static void damaged(void) {
     EXPECT(gaplinte_owner(&plan, 0), GAPLINTE_IDLE);
     EXPECT(gaplinte_owner(&plan, 12), GAPLINTE_IDLE);
     EXPECT(gaplinte_show(&plan, 3, &shown), -GAPLINTE_LINE_NOT_OPEN);
-    EXPECT(gaplinte_turns(&plan, 3, 7), -GAPLINTE_LINE_NOT_OPEN);
+    EXPECT(gaplinte_turns(&plan, 3, 0, 7), -GAPLINTE_LINE_NOT_OPEN);
     EXPECT(gaplinte_close(&plan, 3), -GAPLINTE_LINE_NOT_OPEN);
     EXPECT(gaplinte_open(&plan, 3, 0), -GAPLINTE_PERIOD_OUT_OF_RANGE);
     EXPECT_SAME(plan, found);
@@ -201,6 +227,8 @@ static void damaged(void) {
 int main(void) {
     open_and_close();
     ask();
+    turns();
+    turns_past_32_and_64_bits();
     show();
     walk();
     every_round();

@@ -11,8 +11,8 @@ Traceback (most recent call last):
 gaplinte.Refused: refused with 3: the line is open already
 
 A refused call raises Refused, and leaves plan and walker as found. A number that does not fit into the 64 bits of a
-line, a period or a round (32 for the rounds of turns) raises OverflowError, so that none is cut. Different plans may
-be used in different threads; while one thread changes a plan, no other may use it.
+line, a period or a round (32 for how many rounds turns is asked of) raises OverflowError, so that none is cut.
+Different plans may be used in different threads; while one thread changes a plan, no other may use it.
 
 The shared library is the file that the environment variable GAPLINTE_LIBRARY names, or else
 target/staticlib/libgaplinte.so of the repository. In the repository it is made by
@@ -143,7 +143,7 @@ def _loaded() -> ctypes.CDLL:
         "close": [plan, number],
         "owner": [plan, number],
         "show": [plan, number, ctypes.POINTER(_ShownRecord)],
-        "turns": [plan, number, ctypes.c_uint32],
+        "turns": [plan, number, number, ctypes.c_uint32],
         "walk": [plan, ctypes.POINTER(_PlaceRecord)],
         "run_list": [plan, ctypes.c_char_p, ctypes.c_size_t, ctypes.c_char_p, ctypes.c_size_t],
         "pack": [number, number, number, order],
@@ -242,9 +242,9 @@ class Plan:
             lines.append(OpenLine(line, shown.period, shown.start))
         return lines
 
-    def turns(self, line: int, rounds: int) -> int:
-        """A figure that the line's turns in so many rounds one after the other do not exceed. Refused with 1 or 4."""
-        return _value(_library.gaplinte_turns(self._record, _number(line), _number(rounds, 32)))
+    def turns(self, line: int, first: int, rounds: int) -> int:
+        """Exactly how many of so many rounds from the first on the line owns, past 2**64 too. Refused with 1 or 4."""
+        return _value(_library.gaplinte_turns(self._record, _number(line), _number(first), _number(rounds, 32)))
 
     def run_list(self, orders: bytes) -> list[Answer]:
         """Runs a list of orders, three bytes each, and gives the answer of each. Refused with 7.

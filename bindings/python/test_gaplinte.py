@@ -53,7 +53,7 @@ class MarkedCases(Case):
         self.assertEqual((shown.period, shown.start), (12, 3))
         self.assertEqual(shown.path, ((2, 1), (3, 1), (2, 0)) + ((0, 0),) * 8)
         self.assertEqual(shown.path[1], Row(weight=3, edge=1))
-        self.assertEqual(plan.turns(5, 100), 9)
+        self.assertEqual(plan.turns(5, 0, 100), 9)
         self.assertEqual(plan.lines(), [(1, 4, 0), (2, 6, 1), (3, 8, 2), (5, 12, 3)])
         self.assertEqual(plan.lines()[3], OpenLine(line=5, period=12, start=3))
 
@@ -92,7 +92,7 @@ class Refusals(Case):
             self.refused(1, plan.open, line, 4)
             self.refused(1, plan.close, line)
             self.refused(1, plan.show, line)
-            self.refused(1, plan.turns, line, 9)
+            self.refused(1, plan.turns, line, 0, 9)
             self.refused(1, gaplinte.pack, KIND_CLOSE, line)
         for period in (4096, 65548, 2**32 + 4, LAST):
             self.refused(2, plan.open, 2, period)
@@ -101,7 +101,8 @@ class Refusals(Case):
         self.refused(3, plan.open, 1, 4)
         self.refused(4, plan.close, 2)
         self.refused(4, plan.show, 2)
-        self.refused(4, plan.turns, 2, 9)
+        self.refused(4, plan.turns, 2, 0, 9)
+        self.refused(4, plan.turns, 2, 0, 0)
         self.refused(5, plan.open, 2, 3)
         self.refused(6, gaplinte.pack, 2, 0, 0)
         self.refused(6, gaplinte.pack, KIND_CLOSE, 0, 1)
@@ -131,8 +132,9 @@ class Numbers(Case):
                 lambda: plan.close(number),
                 lambda: plan.owner(number),
                 lambda: plan.show(number),
-                lambda: plan.turns(number, 9),
-                lambda: plan.turns(1, number),
+                lambda: plan.turns(number, 0, 9),
+                lambda: plan.turns(1, number, 9),
+                lambda: plan.turns(1, 0, number),
                 lambda: gaplinte.pack(number, 1, 0),
                 lambda: gaplinte.pack(0, number, 0),
                 lambda: gaplinte.pack(0, 1, number),
@@ -140,7 +142,7 @@ class Numbers(Case):
                 lambda: Walker(0, number),
             ):
                 self.assertRaises(OverflowError, call)
-        self.assertRaises(OverflowError, plan.turns, 1, 2**32)
+        self.assertRaises(OverflowError, plan.turns, 1, 0, 2**32)
         walker = Walker()
         walker.next = 2**64
         self.assertRaises(OverflowError, walker.walk, plan)
@@ -150,7 +152,7 @@ class Numbers(Case):
     def test_the_largest(self):
         plan = self.opened("1@0")
         self.assertEqual(plan.owner(LAST), 1)
-        self.assertEqual(plan.turns(1, 2**32 - 1), 2**32)
+        self.assertEqual(plan.turns(1, LAST, 2**32 - 1), 2**32 - 1)
 
     def test_whole_numbers_only(self):
         for number in (1.0, "1", None, b"\1"):
@@ -190,12 +192,30 @@ class Records(Case):
         self.assertFalse(plan.is_tree())
         self.assertIsNone(plan.owner(0))
         self.assertEqual(plan.lines(), [])
-        for call in (plan.show, plan.close, lambda line: plan.turns(line, 7)):
+        for call in (plan.show, plan.close, lambda line: plan.turns(line, 0, 7)):
             self.refused(4, call, 3)
         self.refused(2, plan.open, 3, 0)
         self.assertEqual(bytes(plan), numbers.tobytes())
         self.assertEqual(plan.open(3, 12), 0)
         self.assertEqual(plan, booked)
+
+
+class Turns(Case):
+    def test_from_a_first_round_on(self):
+        plan = self.opened("4@0", "6@1", "8@2", "12@3")
+        # Line 4 owns rounds 3, 15, 27 .. 87, 99.
+        self.assertEqual([plan.turns(4, 0, rounds) for rounds in (0, 3, 4, 99, 100)], [0, 0, 1, 8, 9])
+        self.assertEqual([plan.turns(4, 4, rounds) for rounds in (0, 11, 12, 23, 24)], [0, 0, 1, 1, 2])
+        # 2**64 divided by 12 leaves 4, so it owns 2**64 - 1 and then 2**64 + 11.
+        self.assertEqual([plan.turns(4, LAST, rounds) for rounds in (0, 1, 12, 13)], [0, 1, 1, 2])
+
+    def test_round_by_round(self):
+        plan = self.opened("4@0", "6@1", "8@2", "12@3")
+        for line, (period, start) in enumerate(((4, 0), (6, 1), (8, 2), (12, 3)), 1):
+            for first in (0, start + 1, 2**32, LAST - 20, LAST):
+                for rounds in range(50):
+                    owned = sum(round % period == start for round in range(first, first + rounds))
+                    self.assertEqual(plan.turns(line, first, rounds), owned)
 
 
 class Lists(Case):

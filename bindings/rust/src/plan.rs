@@ -131,13 +131,14 @@ impl Plan {
         })
     }
 
-    /// Turns of a line in so many rounds one after the other: a figure that they do not exceed.
+    /// Turns of a line: exactly how many of so many rounds from the first on it owns. Rounds are whole numbers: those
+    /// from 2^64 on count too, though no [`Round`] holds them. 0 rounds give 0.
     ///
     /// # Errors
     ///
     /// [`Refusal::LineAbove63`] and [`Refusal::LineNotOpen`].
-    pub fn turns(&self, line: Line, rounds: u32) -> Result<u64, Refusal> {
-        outcome(raw::turns(&self.rows, line.0, rounds))
+    pub fn turns(&self, line: Line, first: Round, rounds: u32) -> Result<u64, Refusal> {
+        outcome(raw::turns(&self.rows, line.0, first.0, rounds))
     }
 
     /// Runs a list of orders, three bytes each, and gives what each order is answered with.

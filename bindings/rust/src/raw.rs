@@ -24,7 +24,12 @@ mod foreign {
             line: u64,
             shown: &mut [u16; SHOWN_NUMBERS],
         ) -> i64;
-        pub safe fn gaplinte_turns(rows: &[u16; PLAN_NUMBERS], line: u64, rounds: u32) -> i64;
+        pub safe fn gaplinte_turns(
+            rows: &[u16; PLAN_NUMBERS],
+            line: u64,
+            first: u64,
+            rounds: u32,
+        ) -> i64;
         pub safe fn gaplinte_walk(rows: &[u16; PLAN_NUMBERS], place: &mut [u64; 2]) -> i64;
         fn gaplinte_run_list(
             rows: &mut [u16; PLAN_NUMBERS],
@@ -76,10 +81,11 @@ pub fn show(rows: &[u16; PLAN_NUMBERS], line: u64, shown: &mut [u16; SHOWN_NUMBE
     foreign::gaplinte_show(rows, line, shown)
 }
 
-/// Turns of a line in so many rounds; the value is a figure that they do not exceed. Refused with 1 or 4.
+/// Turns of a line; the value is exactly how many of so many rounds from the first on it owns, past 2^64 too. Refused
+/// with 1 or 4.
 #[must_use]
-pub fn turns(rows: &[u16; PLAN_NUMBERS], line: u64, rounds: u32) -> i64 {
-    foreign::gaplinte_turns(rows, line, rounds)
+pub fn turns(rows: &[u16; PLAN_NUMBERS], line: u64, first: u64, rounds: u32) -> i64 {
+    foreign::gaplinte_turns(rows, line, first, rounds)
 }
 
 /// The walker on a place, which is the next round and the count; the value is the line, or [`IDLE`]. Refused with 9.

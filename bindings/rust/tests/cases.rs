@@ -58,7 +58,7 @@ fn case_a() {
     let shown = plan.show(Line(5)).unwrap();
     assert_eq!((shown.period, shown.start), (Period(12), Start(3)));
     assert_eq!(shown.rows, path(&[(2, 1), (3, 1), (2, 0)]));
-    assert_eq!(plan.turns(Line(5), 100), Ok(9));
+    assert_eq!(plan.turns(Line(5), Round(0), 100), Ok(9));
     assert_eq!(
         format!("{plan:?}"),
         r#"{1: "4@0", 2: "6@1", 3: "8@2", 5: "12@3"}"#
@@ -86,7 +86,6 @@ fn case_d() {
         (4095, Err(Refusal::NoCandidate)),
     ]);
     assert_eq!(plan.show(Line(1)).unwrap().rows, path(&[(1, 0)]));
-    assert_eq!(plan.turns(Line(1), u32::MAX), Ok(1 << 32));
 }
 
 #[test]

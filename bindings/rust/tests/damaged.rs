@@ -39,7 +39,10 @@ fn asked() {
         }
         for line in [0, 3, 5, 63].map(Line) {
             assert_eq!(plan.show(line), Err(Refusal::LineNotOpen));
-            assert_eq!(plan.turns(line, 7), Err(Refusal::LineNotOpen));
+            for (first, rounds) in [(0, 7), (12, 0), (u64::MAX, u32::MAX)] {
+                let turns = plan.turns(line, Round(first), rounds);
+                assert_eq!(turns, Err(Refusal::LineNotOpen));
+            }
         }
         assert_eq!(plan.show(Line(64)), Err(Refusal::LineAbove63));
         let mut walker = Walker::default();

@@ -27,7 +27,9 @@ fn values() {
     assert_eq!(raw::owner(&rows, 4), 5);
     assert_eq!(raw::owner(&rows, u64::MAX - 2), 6);
     assert_eq!(raw::owner(&rows, 6), raw::IDLE);
-    assert_eq!(raw::turns(&rows, 6, u32::MAX), 1 << 30);
+    // Of the rounds 2 to 2^32 line 6 owns 5, 9 .. 2^32 - 3.
+    assert_eq!(raw::turns(&rows, 6, 2, u32::MAX), (1 << 30) - 1);
+    assert_eq!(raw::turns(&rows, 6, u64::MAX - 2, 1), 1);
     assert_eq!(raw::is_tree(&rows), 1);
     let mut shown = [7; raw::SHOWN_NUMBERS];
     assert_eq!(raw::show(&rows, 6, &mut shown), 0);
@@ -59,7 +61,7 @@ fn a_refusal_is_minus_its_number() {
     }
     for (line, answer) in [(64, -1), (u64::MAX, -1), (1, -4)] {
         assert_eq!(kept(&mut rows, |rows| raw::close(rows, line)), answer);
-        assert_eq!(raw::turns(&rows, line, 4), answer);
+        assert_eq!(raw::turns(&rows, line, 0, 4), answer);
         let shown = kept(&mut [7; 24], |shown| raw::show(&rows, line, shown));
         assert_eq!(shown, answer);
     }

@@ -72,7 +72,7 @@ fn line_above_63() {
         assert_eq!(plan.open(line, Period(0)), Err(Refusal::LineAbove63));
         assert_eq!(plan.close(line), Err(Refusal::LineAbove63));
         assert_eq!(plan.show(line), Err(Refusal::LineAbove63));
-        assert_eq!(plan.turns(line, 9), Err(Refusal::LineAbove63));
+        assert_eq!(plan.turns(line, Round(0), 9), Err(Refusal::LineAbove63));
         assert_eq!(pack(0, line, Period(4)), Err(Refusal::LineAbove63));
         assert_eq!(
             Call::Open(line, Period(4)).pack(),
@@ -113,7 +113,10 @@ fn line_open_and_not_open() {
     assert_eq!(plan.open(Line(0), Period(4)), Err(Refusal::LineOpen));
     assert_eq!(plan.close(Line(1)), Err(Refusal::LineNotOpen));
     assert_eq!(plan.show(Line(1)), Err(Refusal::LineNotOpen));
-    assert_eq!(plan.turns(Line(1), 9), Err(Refusal::LineNotOpen));
+    for rounds in [0, 9] {
+        let turns = plan.turns(Line(1), Round(0), rounds);
+        assert_eq!(turns, Err(Refusal::LineNotOpen));
+    }
     assert_eq!(plan, one_line());
 }
 

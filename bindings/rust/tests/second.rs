@@ -57,6 +57,29 @@ fn same_lines(plan: &Plan, other: &tree::Plan) {
     assert!(lines.eq(expected));
 }
 
+/// Turns of a line on two plans: in no rounds, in about as many as its period, in the most and in any number of them.
+fn same_turns(plan: &Plan, other: &tree::Plan, line: u64, random: &mut Random) {
+    let period = ask::show(other, line).map_or(1, |shown| shown.period.0.into());
+    let near = random.below(5000);
+    let middle = 1 << 32;
+    for first in [
+        0,
+        near,
+        middle - near,
+        middle + near,
+        u64::MAX - near,
+        u64::MAX,
+        random.draw(),
+    ] {
+        let any = random.draw() as u32;
+        for rounds in [0, 1, period - 1, period, period + 1, u32::MAX, any] {
+            let turns = numbered(plan.turns(Line(line), Round(first), rounds));
+            let expected = numbered_second(ask::turns(other, line, first, rounds));
+            assert_eq!(turns, expected, "line {line}, {rounds} rounds from {first}");
+        }
+    }
+}
+
 /// Owner, show, turns, the open lines and the walker on two plans that should have the same tree.
 fn ask_both(plan: &Plan, other: &tree::Plan, random: &mut Random) {
     for round in rounds(random) {
@@ -74,9 +97,7 @@ fn ask_both(plan: &Plan, other: &tree::Plan, random: &mut Random) {
             (shown.period.0.into(), shown.start.0.into(), rows)
         });
         assert_eq!(shown, expected, "line {line}");
-        let rounds = random.draw() as u32;
-        let turns = numbered_second(ask::turns(other, line, rounds));
-        assert_eq!(numbered(plan.turns(Line(line), rounds)), turns);
+        same_turns(plan, other, line, random);
     }
     for from in [0, random.draw(), u64::MAX - ROUNDS / 2] {
         let mut walker = Walker {
@@ -186,6 +207,7 @@ fn damaged_records() {
             same_lines(&plan, &held.plan);
 
             let (line, period) = (random.below(64), random.below(4096));
+            same_turns(&plan, &held.plan, line, &mut random);
             let answer = plan.close(Line(line));
             assert_eq!(numbered(answer), numbered_second(held.close(line)));
             let answer = plan.open(Line(line), Period(period)).map(|start| start.0);
