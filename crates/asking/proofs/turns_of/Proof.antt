@@ -1,10 +1,11 @@
--- `asking::turns_of` meets its contract: the rounds end before the next turn, or come to it. A quotient is at most the number divided.
+-- `asking::turns_of` meets its contract: the rounds end before the next turn, or come to it.
 -- Assumes nothing.
-use Prim.Native.Nat.{_+_, _-_}
+use Prim.Native.Nat.{ℕ, _+_, _-_, _/_, _^_, _<_}
 use native.Mathlib.Nat.{div-le-self}
 use native.Mathlib.Omega.{arith}
 use mathlib.Core.Path.{_≡_}
-use borrow.Author.Needs.{needs}
+use mir.Syntax.{w64}
+use borrow.Author.Needs.{needs, fits-under}
 use borrow.Author.Tests.{lt-ltb, le-ltb}
 use Rattle.asking.specs.Turns.{turns-in}
 use Rattle.asking.proofs.TurnsByDivision.{until-below}
@@ -18,7 +19,8 @@ until-turn-requires c κs = search needs
 add-needed : tie.Need-add-needed
 add-needed c =
     let start = c .before in
-    omega (arith, c .until-turn .ensures, until-below (start .args .times .period .0) (start .args .times .start .0) (start .args .first) (start .pre))
+    let below : c .until-turn .result < start .args .times .period .0 = rw (c .until-turn .ensures) (until-below _ _ _ (start .pre)) in
+    omega arith
 
 returns : tie.Need-returns
 unfolding turns-in
@@ -32,11 +34,11 @@ cast-result c = search needs
 div-result : tie.Need-div-result
 div-result c = search needs
 
+quotient-below : (n d : ℕ) → n < 2 ^ 32 → n / d + 1 < 2 ^ 33
+quotient-below n d below = omega (arith, div-le-self n d)
+
 add-result : tie.Need-add-result
-add-result c =
-    let after-until = c .before .before in
-    let start = after-until .before in
-    omega (arith, div-le-self (start .args .rounds - (after-until .until-turn .result + 1)) (start .args .times .period .0))
+add-result c = fits-under w64 _ _ (quotient-below _ _ (omega arith)) tt
 
 returns-2 : tie.Need-returns-2
 unfolding turns-in
