@@ -107,15 +107,13 @@ module _ (q u : ℕ) (below : u < q) (a : ℕ) where
       by-test false e =
           sym (ne-eqb _ _ (λ h. eqb-false _ _ e (sym (add-mod-mod a i q) ∙ ap (λ (n : ℕ). (a + n) % q) h ∙ until-fits)))
 
-  until-less : until-turn q u a < q
-  until-less = until-below q u a (some-rounds q u below)
-
   fitting-by-division : (N : ℕ) → count-below N (λ i. eqb ((a + i) % q) u) ≡ turns-in q u a N
   unfolding turns-in
   fitting-by-division N =
+      let less = until-below q u a (some-rounds q u below) in
       (λ k. count-below N (λ i. same-test i k))
-      ∙ count-by-quotient q (until-turn q u a) until-less N
-      ∙ quotient-from-first q (until-turn q u a) until-less N
+      ∙ count-by-quotient q (until-turn q u a) less N
+      ∙ quotient-from-first q (until-turn q u a) less N
 
 -- (Ask 1, 2) The turns of an open line, of N rounds from a on: those that fit its period and start, by division.
 pub turns-by-division : (t : Tree) → Legal t → (L : ℕ) → is-open L t ≡ true → (a N : ℕ) → turns L a N t ≡ turns-in (period-of L t) (start-of L t) a N

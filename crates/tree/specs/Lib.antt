@@ -1,5 +1,6 @@
--- What a reader must believe: document 01 as definitions, in its own order. A mark such as (The tree, 6) names the sentence that a definition renders,
--- counted within that section of document 01; docs/RULES.md has the rules under these numbers, docs/TRACE.md what renders and shows each.
+-- What a reader must believe: document 01 as definitions, in its own order, and turns as document 02 has them. A mark such as (The tree, 6) names the sentence
+-- that a definition renders, counted within that section of document 01, (Ask 1, 2) one of document 02; docs/RULES.md has the rules under these numbers,
+-- docs/TRACE.md what renders and shows each.
 pub mod Numbers
 pub mod Search
 pub mod Tree
