@@ -268,7 +268,7 @@ fn print_question(plan: &Plan, step: Step, out: &mut impl Write) -> io::Result<(
         Step::Owner(round) => writeln!(out, "owner {round} {}", owned(owner(plan, round))),
         Step::Show(line) => writeln!(out, "show {line} {}", shown(show(plan, line))),
         Step::Turns(line, rounds) => {
-            let answer = turned(turns(plan, line, rounds));
+            let answer = turned(turns(plan, line, 0, rounds));
             writeln!(out, "turns {line} {rounds} {answer}")
         }
         Step::Walk(place) => print_walks(plan, place, out),
