@@ -8,6 +8,8 @@
 
 pub mod ask;
 pub mod book;
+pub mod border_turns;
+pub mod head;
 pub mod list_cases;
 pub mod list_script;
 pub mod lists;
