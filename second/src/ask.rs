@@ -1,7 +1,8 @@
-//! Document 01, section Asking the plan: owner, show and turns.
+//! Document 01, section Asking the plan: owner and show. Document 02, Ask 1: turns.
 
 use crate::refusal::Refusal;
 use crate::tree::{Node, Period, Plan, Start, Under};
+use std::ops::Range;
 
 /// Length of a path (Asking the plan, 3).
 pub const ROWS: usize = 11;
@@ -23,13 +24,18 @@ pub struct Shown {
 
 /// None is idle; there is no refusal (Asking the plan, 1 and 2).
 pub fn owner(plan: &Plan, round: u64) -> Option<u8> {
+    owner_at(plan, round.into())
+}
+
+/// Any whole number, since turns counts past 2^64 (document 02, Ask 1).
+fn owner_at(plan: &Plan, round: u128) -> Option<u8> {
     let root = plan.root.as_ref()?;
     walk(root, 1, 0, round)
 }
 
 /// Selects the edge by the remainder of the round (The tree, 12).
-fn walk(node: &Node, step: u64, offset: u64, round: u64) -> Option<u8> {
-    let span = step * u64::from(node.weight);
+fn walk(node: &Node, step: u128, offset: u128, round: u128) -> Option<u8> {
+    let span = step * u128::from(node.weight);
     let edge = (round % span - offset) / step;
     match node.edges.get(&u16::try_from(edge).ok()?)? {
         Under::Line(line) => Some(*line),
@@ -51,10 +57,22 @@ pub fn show(plan: &Plan, line: u64) -> Result<Shown, Refusal> {
     })
 }
 
-/// 32 bits would not hold the largest answer (Asking the plan, 4).
-pub fn turns(plan: &Plan, line: u64, rounds: u32) -> Result<u64, Refusal> {
-    let shown = show(plan, line)?;
-    Ok(u64::from(rounds) / u64::from(shown.period.0) + 1)
+/// How many of the rounds from the first on the line owns, as whole numbers (document 02,
+/// Ask 1). As many rounds in succession as its period have one that it owns (The tree, 7
+/// and 12), so that only those after the last whole period are walked.
+pub fn turns(plan: &Plan, line: u64, first: u64, rounds: u32) -> Result<u64, Refusal> {
+    let period = u32::from(show(plan, line)?.period.0);
+    let end = u128::from(first) + u128::from(rounds);
+    let left = u128::from(rounds % period);
+    Ok(u64::from(rounds / period) + count_owned(plan, line, end - left..end))
+}
+
+/// Walks every one of the rounds.
+fn count_owned(plan: &Plan, line: u64, rounds: Range<u128>) -> u64 {
+    let owner = |round| owner_at(plan, round).map(u64::from);
+    rounds
+        .map(|round| u64::from(owner(round) == Some(line)))
+        .sum()
 }
 
 /// Weight and edge of each node above the line, from this node on.
@@ -81,4 +99,72 @@ fn period_of(rows: &[Row]) -> Period {
 fn start_of(rows: &[Row]) -> Start {
     let terms = (0..rows.len()).map(|at| rows[at].edge * period_of(&rows[..at]).0);
     Start(terms.sum())
+}
+
+#[cfg(test)]
+mod tests {
+    use super::*;
+
+    /// Near 0, 2^32 and 2^64; from the last ones on the rounds pass 2^64.
+    fn border_rounds() -> impl Iterator<Item = u64> {
+        let near_32_bits = (1 << 32) - 9..(1 << 32) + 9;
+        (0..18).chain(near_32_bits).chain(u64::MAX - 17..=u64::MAX)
+    }
+
+    fn assert_turns_are_all_rounds_walked(plan: &Plan, line: u64, counts: &[u32]) {
+        for first in border_rounds() {
+            for &rounds in counts {
+                let end = u128::from(first) + u128::from(rounds);
+                let walked = count_owned(plan, line, first.into()..end);
+                assert_eq!(
+                    turns(plan, line, first, rounds),
+                    Ok(walked),
+                    "{line} {first} {rounds}"
+                );
+            }
+        }
+    }
+
+    fn opened(periods: &[u64]) -> Plan {
+        let mut plan = Plan::empty();
+        for (line, &period) in (0..).zip(periods) {
+            plan.open(line, period).unwrap();
+        }
+        plan
+    }
+
+    /// Several periods and a part of one, in plans without and with idle rounds.
+    #[test]
+    fn turns_are_all_rounds_walked() {
+        let every: Vec<u32> = (0..40).collect();
+        for periods in [&[1][..], &[2, 4, 4], &[3, 9], &[4, 6, 8, 12], &[5, 35, 10]] {
+            let plan = opened(periods);
+            for line in 0..periods.len() as u64 {
+                assert_turns_are_all_rounds_walked(&plan, line, &every);
+            }
+        }
+    }
+
+    #[test]
+    fn turns_of_long_periods_are_all_rounds_walked() {
+        for (periods, line, period) in [(&[4_095, 15, 4_095][..], 2, 4_095), (&[2_047], 0, 2_047)] {
+            let counts = [0, 1, period - 1, period, period + 1, 2 * period + 16];
+            assert_turns_are_all_rounds_walked(&opened(periods), line, &counts);
+        }
+    }
+
+    /// 2^64 leaves 4 when divided by 6 and 16 when divided by 4,095: as a round of 64 bits
+    /// it would be 0, which leaves 0.
+    #[test]
+    fn rounds_past_64_bits_are_no_smaller_ones() {
+        let plan = opened(&[4, 6]);
+        let past = 1 << 64;
+        let owners = (past..past + 6).map(|round| owner_at(&plan, round));
+        let expected = [Some(0), None, None, Some(1), Some(0), None];
+        assert!(owners.eq(expected));
+        let plan = opened(&[4_095]);
+        assert_eq!(owner_at(&plan, past), None);
+        assert_eq!(owner_at(&plan, past - 16), Some(0));
+        assert_eq!(owner_at(&plan, past - 16 + 4_095), Some(0));
+    }
 }

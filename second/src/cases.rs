@@ -177,7 +177,9 @@ fn case_h() {
         refused(&mut Plan::empty(), line, 5, Line);
         assert_eq!(plan.close(line), Err(Line));
         assert_eq!(show(&plan, line), Err(Line));
-        assert_eq!(turns(&plan, line, 1), Err(Line));
+        for rounds in [0, 1] {
+            assert_eq!(turns(&plan, line, u64::MAX, rounds), Err(Line));
+        }
     }
     assert_eq!(period_and_start(&plan, 63), (5, 0));
 }
@@ -221,22 +223,63 @@ fn lines_not_open_are_refused_4() {
     for line in 1..64 {
         assert_eq!(plan.close(line), Err(LineNotOpen));
         assert_eq!(show(&plan, line), Err(LineNotOpen));
-        assert_eq!(turns(&plan, line, 9), Err(LineNotOpen));
+        for rounds in [0, 9] {
+            assert_eq!(turns(&plan, line, 6, rounds), Err(LineNotOpen));
+        }
     }
     assert_eq!(plan, found);
     assert_eq!(Plan::empty().close(0), Err(LineNotOpen));
     assert_eq!(Plan::empty().close(64), Err(Line));
 }
 
+/// Each figure counted by hand from the rounds that leave the start (document 02, Ask 1).
 #[test]
 fn turns_of_a_line() {
     let plan = opened(&[(4, 0), (6, 1)]);
-    assert_eq!(turns(&plan, 0, 0), Ok(1));
-    assert_eq!(turns(&plan, 0, 3), Ok(1));
-    assert_eq!(turns(&plan, 0, 4), Ok(2));
-    assert_eq!(turns(&plan, 1, 5), Ok(1));
-    assert_eq!(turns(&plan, 1, u32::MAX), Ok(715_827_883));
-    assert_eq!(turns(&opened(&[(1, 0)]), 0, u32::MAX), Ok(1 << 32));
+    assert_eq!(turns(&plan, 0, 0, 0), Ok(0));
+    assert_eq!(turns(&plan, 0, 0, 1), Ok(1));
+    assert_eq!(turns(&plan, 0, 0, 4), Ok(1));
+    assert_eq!(turns(&plan, 0, 0, 5), Ok(2));
+    assert_eq!(turns(&plan, 0, 1, 3), Ok(0));
+    assert_eq!(turns(&plan, 0, 1, 4), Ok(1));
+    assert_eq!(turns(&plan, 1, 2, 5), Ok(0));
+    assert_eq!(turns(&plan, 1, 2, 6), Ok(1));
+    assert_eq!(turns(&plan, 1, 1, 7), Ok(2));
+}
+
+/// 2^32 − 1 rounds; 3 is left when it is divided by 6, and 255 by 4,095.
+#[test]
+fn turns_in_the_most_rounds() {
+    let most = u32::MAX;
+    let plan = opened(&[(4, 0), (6, 1)]);
+    assert_eq!(turns(&plan, 0, 0, most), Ok(1 << 30));
+    assert_eq!(turns(&plan, 0, 1, most), Ok((1 << 30) - 1));
+    assert_eq!(turns(&plan, 1, 1, most), Ok(715_827_883));
+    assert_eq!(turns(&plan, 1, 2, most), Ok(715_827_882));
+    assert_eq!(turns(&opened(&[(4_095, 0)]), 0, 3_841, most), Ok(1_048_833));
+    assert_eq!(turns(&opened(&[(4_095, 0)]), 0, 3_840, most), Ok(1_048_832));
+    for first in [0, 1 << 32, u64::MAX] {
+        let every_round = opened(&[(1, 0)]);
+        assert_eq!(turns(&every_round, 0, first, most), Ok(most.into()));
+    }
+}
+
+/// 2^64 leaves 4 when divided by 6 and 16 when divided by 4,095, so that the turns after it
+/// are not those of the rounds from 0 on (document 02, Ask 1).
+#[test]
+fn turns_past_64_bits() {
+    let plan = opened(&[(4, 0), (6, 1)]);
+    assert_eq!(turns(&plan, 0, u64::MAX, 1), Ok(0));
+    assert_eq!(turns(&plan, 0, u64::MAX, 2), Ok(1));
+    assert_eq!(turns(&plan, 1, u64::MAX, 4), Ok(0));
+    assert_eq!(turns(&plan, 1, u64::MAX, 5), Ok(1));
+    assert_eq!(turns(&plan, 1, u64::MAX - 2, 1), Ok(1));
+    assert_eq!(turns(&plan, 1, u64::MAX - 2, 7), Ok(2));
+    let plan = opened(&[(4_095, 0)]);
+    assert_eq!(turns(&plan, 0, u64::MAX, 4_080), Ok(0));
+    assert_eq!(turns(&plan, 0, u64::MAX, 4_081), Ok(1));
+    assert_eq!(turns(&plan, 0, u64::MAX - 15, 4_095), Ok(1));
+    assert_eq!(turns(&plan, 0, u64::MAX - 15, 4_096), Ok(2));
 }
 
 /// A split keeps the starts of the lines below it (Marked cases, mistakes).

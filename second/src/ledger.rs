@@ -1,6 +1,6 @@
 //! Generated lists measured against a ledger kept apart from the tree. Only for tests.
 
-use crate::ask::{owner, show};
+use crate::ask::{owner, show, turns};
 use crate::lists::generate;
 use crate::naive::{expected_start, is_tree};
 use crate::orders::{run_order, ORDER_BYTES};
@@ -116,6 +116,19 @@ fn assert_owners_agree(plan: &Plan, ledger: &Ledger, rounds: impl Iterator<Item 
     }
 }
 
+/// Turns against every round counted that fits the line, past 2^64 too (document 02, Ask 1).
+fn assert_turns_agree(plan: &Plan, ledger: &Ledger, first: u64, rounds: u32) {
+    for (line, entry) in (0..).zip(ledger.lines) {
+        let fitting = entry.map(|(period, start)| {
+            let fits = |round: &u128| round % u128::from(period) == u128::from(start);
+            let counted = (first.into()..).take(rounds as usize).filter(fits);
+            counted.count() as u64
+        });
+        let expected = fitting.ok_or(Refusal::LineNotOpen);
+        assert_eq!(turns(plan, line, first, rounds), expected, "{line} {first}");
+    }
+}
+
 fn check_lists(shape: Shape, seed: u64, count: usize) {
     let mut random = Random::new(seed);
     for _ in 0..count {
@@ -125,6 +138,10 @@ fn check_lists(shape: Shape, seed: u64, count: usize) {
         assert_owners_agree(&plan, &ledger, (1 << 32) - 500..(1 << 32) + 500);
         assert_owners_agree(&plan, &ledger, u64::MAX - 500..=u64::MAX);
         let far: Vec<u64> = (0..500).map(|_| random.draw()).collect();
+        for last in [20, 1 << 32, u64::MAX, far[0]] {
+            let first = last.saturating_sub(random.below(20));
+            assert_turns_agree(&plan, &ledger, first, random.below(1_000) as u32);
+        }
         assert_owners_agree(&plan, &ledger, far.into_iter());
     }
 }

@@ -1,12 +1,15 @@
-//! A second implementation of document 01, written from that document alone.
-//! It writes the outputs that the proved program is tested against.
+//! A second implementation of document 01 and, of document 02, Ask 1, written from these
+//! documents alone. It writes the outputs that the proved program is tested against.
 //!
 //! Comments cite document 01 as (section, sentence), counted within the section; the one
 //! word before the items of Opening a line is not counted. (Refusals, 3) is refusal 3 of
-//! the section Who brings a refusal about, (Marked cases, A) is case A.
+//! the section Who brings a refusal about, (Marked cases, A) is case A. Document 02 is cited
+//! by its asks: (document 02, Ask 1).
 
 pub mod ask;
 pub mod book;
+pub mod border_turns;
+pub mod head;
 pub mod list_cases;
 pub mod list_script;
 pub mod lists;

@@ -1,11 +1,12 @@
 //! Scripts of list calls, and what each call answers: the input and the expected output
 //! of the test program that runs order lists on one plan after another.
 //!
-//! A script is a sequence of steps. A step is a kind, then two numbers of 64 bits, most
-//! significant byte first: 17 bytes. Kinds: 0 begins again with the empty plan (0, 0),
-//! 1 writes a number into the record (place, number), 2 asks for a number of the record
-//! (place, 0), 3 asks for an owner (round, 0), 4 gives bytes (count, 0), 5 runs a list
-//! (length, room). The bytes that are given, 1 to 100,000, follow their step.
+//! A script is a sequence of steps. A step is a kind, then three numbers of 64 bits, most
+//! significant byte first, those that are not named here 0: 25 bytes, as in `script.rs`.
+//! Kinds: 0 begins again with the empty plan, 1 writes a number into the record (place,
+//! number), 2 asks for a number of the record (place), 3 asks for an owner (round), 4 gives
+//! bytes (count), 5 runs a list (length, room). The bytes that are given, 1 to 100,000,
+//! follow their step.
 //!
 //! A list is the bytes given last, over and over up to its length, so that a long one
 //! takes little of the script; its length is at most 100,000. The room, at most 70,000,
@@ -25,6 +26,7 @@
 //! until an order is carried out, since a refused one leaves the plan as it was.
 
 use crate::ask::owner;
+use crate::head::{self, HEAD_BYTES};
 use crate::lists;
 use crate::orders::{answers_length, ANSWER_BYTES};
 use crate::random::Random;
@@ -33,8 +35,6 @@ use crate::refusal::Refusal;
 use crate::shapes::Shape;
 use std::io::{self, Write};
 
-/// Bytes of a step without those that are given.
-const HEAD_BYTES: usize = 17;
 /// The longest list that a script can run, and the most bytes that it can give.
 const LIST_BYTES: usize = 100_000;
 /// The most bytes that are lent.
@@ -64,9 +64,7 @@ impl Step {
             Step::Give(ref bytes) => (4, bytes.len() as u64, 0),
             Step::List { length, room } => (5, length as u64, room as u64),
         };
-        out.write_all(&[kind])?;
-        out.write_all(&first.to_be_bytes())?;
-        out.write_all(&second.to_be_bytes())?;
+        out.write_all(&head::write(kind, [first, second, 0]))?;
         match self {
             Step::Give(bytes) => out.write_all(bytes),
             _ => Ok(()),
@@ -76,13 +74,8 @@ impl Step {
     /// The first step of a script, and the script after it.
     fn read(script: &[u8]) -> Option<(Step, &[u8])> {
         let (head, rest) = script.split_first_chunk::<HEAD_BYTES>()?;
-        let number = |from: usize| {
-            head[from..from + 8]
-                .iter()
-                .fold(0, |number, byte| number << 8 | u64::from(*byte))
-        };
-        let (first, second) = (number(1), number(9));
-        let step = match head[0] {
+        let (kind, [first, second, _]) = head::read(head);
+        let step = match kind {
             0 => Step::Begin,
             1 => Step::Write {
                 place: first,
@@ -278,8 +271,8 @@ mod tests {
     #[test]
     fn steps_outside_the_limits_are_not_read() {
         let head = |kind: u8, first: u64, second: u64| {
-            let numbers = [first.to_be_bytes(), second.to_be_bytes()].concat();
-            [vec![kind], numbers, vec![0; LIST_BYTES + 1]].concat()
+            let head = head::write(kind, [first, second, 0]);
+            [head.to_vec(), vec![0; LIST_BYTES + 1]].concat()
         };
         for (kind, first, second) in [
             (4, 0, 0),

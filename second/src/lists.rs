@@ -31,7 +31,7 @@ pub(crate) fn rounds(plan: &Plan, random: &mut Random) -> Vec<u64> {
 }
 
 /// `far` chooses among the rounds that fit the line (The lists of demand 3, 18).
-fn round_that_fits(plan: &Plan, line: u64, far: u64) -> Option<u64> {
+pub(crate) fn round_that_fits(plan: &Plan, line: u64, far: u64) -> Option<u64> {
     let shown = show(plan, line).ok()?;
     let period = u64::from(shown.period.0);
     Some(far % (u64::MAX / period) * period + u64::from(shown.start.0))

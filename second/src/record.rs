@@ -40,6 +40,15 @@ impl Record {
         self.numbers[place]
     }
 
+    /// The lines whose first row is in use.
+    pub fn lines_with_rows(&self) -> Vec<u64> {
+        let first_weights = self.numbers.iter().step_by(LINE_NUMBERS);
+        (0..)
+            .zip(first_weights)
+            .filter_map(|(line, &weight)| (weight != 0).then_some(line))
+            .collect()
+    }
+
     /// The plan that the numbers are; one that is no tree counts as empty (The tree, 16).
     pub fn plan(&self) -> Plan {
         self.tree().unwrap_or_default()

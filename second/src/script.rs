@@ -1,17 +1,17 @@
 //! Scripts of calls, and what each call answers: the input and the expected output of the
 //! test program that puts the public calls to one plan after another.
 //!
-//! A script is a sequence of steps of 17 bytes: a kind, then two numbers of 64 bits, most
-//! significant byte first. Kinds: 0 opens (line, period), 1 closes (line, 0), 2 begins
-//! again with the empty plan (0, 0), 3 writes a number into the record (place, number),
-//! 4 asks for an owner (round, 0), 5 shows (line, 0), 6 asks for turns (line, rounds),
-//! 7 walks (next, owned).
+//! A script is a sequence of steps of 25 bytes: a kind, then three numbers of 64 bits, most
+//! significant byte first, those that are not named here 0. Kinds: 0 opens (line, period),
+//! 1 closes (line), 2 begins again with the empty plan, 3 writes a number into the record
+//! (place, number), 4 asks for an owner (round), 5 shows (line), 6 asks for turns (line,
+//! first, rounds), 7 walks (next, owned).
 //!
 //! Each step prints one line, a walk two:
 //! `open LINE PERIOD RESULT START`, with `-` for the start of a refused open;
 //! `close LINE RESULT`; `plan`; `write PLACE NUMBER`; `owner ROUND LINE`, or `idle` for
 //! the line; `show LINE 0 PERIOD START` and the 11 rows, each weight and edge, or
-//! `show LINE RESULT`; `turns LINE ROUNDS RESULT TURNS`, with `-` where refused;
+//! `show LINE RESULT`; `turns LINE FIRST ROUNDS RESULT TURNS`, with `-` where refused;
 //! `walk NEXT OWNED ANSWER NEXT OWNED`, the answer a line, `idle` or `refused 9`, from the
 //! walker by value, then `lent` and the same from the walker on a lent place.
 //!
@@ -19,6 +19,8 @@
 //! none, which counts as the empty plan: `record.rs` says which.
 
 use crate::ask::{owner, show, turns, Shown};
+use crate::border_turns::border_turns;
+use crate::head::{self, HEAD_BYTES};
 use crate::lists;
 use crate::orders::{read, Order, ORDER_BYTES};
 use crate::random::Random;
@@ -29,9 +31,6 @@ use crate::tree::{Plan, Start};
 use crate::walker::{walk, walk_lent, Answer, Place};
 use std::io::{self, Write};
 
-/// Bytes of one step.
-pub const STEP_BYTES: usize = 17;
-
 #[derive(Clone, Copy, Debug, PartialEq, Eq)]
 pub enum Step {
     Open(u64, u64),
@@ -40,43 +39,43 @@ pub enum Step {
     Write(u64, u16),
     Owner(u64),
     Show(u64),
-    Turns(u64, u32),
+    Turns { line: u64, first: u64, rounds: u32 },
     Walk(Place),
 }
 
 impl Step {
-    pub fn bytes(self) -> [u8; STEP_BYTES] {
-        let (kind, first, second) = match self {
-            Step::Open(line, period) => (0, line, period),
-            Step::Close(line) => (1, line, 0),
-            Step::Begin => (2, 0, 0),
-            Step::Write(place, number) => (3, place, number.into()),
-            Step::Owner(round) => (4, round, 0),
-            Step::Show(line) => (5, line, 0),
-            Step::Turns(line, rounds) => (6, line, rounds.into()),
-            Step::Walk(Place { next, owned }) => (7, next, owned),
+    pub fn bytes(self) -> [u8; HEAD_BYTES] {
+        let (kind, numbers) = match self {
+            Step::Open(line, period) => (0, [line, period, 0]),
+            Step::Close(line) => (1, [line, 0, 0]),
+            Step::Begin => (2, [0, 0, 0]),
+            Step::Write(place, number) => (3, [place, number.into(), 0]),
+            Step::Owner(round) => (4, [round, 0, 0]),
+            Step::Show(line) => (5, [line, 0, 0]),
+            Step::Turns {
+                line,
+                first,
+                rounds,
+            } => (6, [line, first, rounds.into()]),
+            Step::Walk(Place { next, owned }) => (7, [next, owned, 0]),
         };
-        let mut bytes = [kind; STEP_BYTES];
-        bytes[1..9].copy_from_slice(&first.to_be_bytes());
-        bytes[9..].copy_from_slice(&second.to_be_bytes());
-        bytes
+        head::write(kind, numbers)
     }
 
-    pub fn of(bytes: [u8; STEP_BYTES]) -> Option<Step> {
-        let number = |from: usize| {
-            bytes[from..from + 8]
-                .iter()
-                .fold(0, |number, byte| number << 8 | u64::from(*byte))
-        };
-        let (first, second) = (number(1), number(9));
-        match bytes[0] {
+    pub fn of(bytes: [u8; HEAD_BYTES]) -> Option<Step> {
+        let (kind, [first, second, third]) = head::read(&bytes);
+        match kind {
             0 => Some(Step::Open(first, second)),
             1 => Some(Step::Close(first)),
             2 => Some(Step::Begin),
             3 => Some(Step::Write(first, u16::try_from(second).ok()?)),
             4 => Some(Step::Owner(first)),
             5 => Some(Step::Show(first)),
-            6 => Some(Step::Turns(first, u32::try_from(second).ok()?)),
+            6 => Some(Step::Turns {
+                line: first,
+                first: second,
+                rounds: u32::try_from(third).ok()?,
+            }),
             7 => Some(Step::Walk(Place {
                 next: first,
                 owned: second,
@@ -86,34 +85,37 @@ impl Step {
     }
 }
 
-/// The marked cases, then walks at the borders of a place's numbers.
+/// The marked cases, then walks at the borders of a place's numbers, then turns at those of
+/// a first round.
 pub fn cases() -> Vec<Step> {
     let marked = marked_cases().into_iter();
     let begun = marked.flat_map(|case| [vec![Step::Begin], case].concat());
-    begun.chain(border_walks()).collect()
+    begun.chain(border_walks()).chain(border_turns()).collect()
+}
+
+/// Opens the periods as lines 1, 2, 3 ..
+pub(crate) fn opens_in_turn(periods: &[u64]) -> Vec<Step> {
+    (1..)
+        .zip(periods)
+        .map(|(line, &period)| Step::Open(line, period))
+        .collect()
 }
 
 /// (Marked cases, A to I), the calls of each that change a plan; the lines are numbered
 /// from 1 where the case names none.
 pub(crate) fn marked_cases() -> Vec<Vec<Step>> {
-    let in_turn = |periods: &[u64]| -> Vec<Step> {
-        (1..)
-            .zip(periods)
-            .map(|(line, &period)| Step::Open(line, period))
-            .collect()
-    };
     let powers: Vec<u64> = (1..=11).map(|power| 1 << power).collect();
     vec![
-        in_turn(&[4, 6, 8, 2, 12]),
-        in_turn(&[4, 4, 2]),
-        in_turn(&[6, 12, 12]),
-        in_turn(&[1, 1, 4_095]),
-        in_turn(&[2, 3]),
-        in_turn(&powers),
-        in_turn(&[4_095, 4_096, 0]),
+        opens_in_turn(&[4, 6, 8, 2, 12]),
+        opens_in_turn(&[4, 4, 2]),
+        opens_in_turn(&[6, 12, 12]),
+        opens_in_turn(&[1, 1, 4_095]),
+        opens_in_turn(&[2, 3]),
+        opens_in_turn(&powers),
+        opens_in_turn(&[4_095, 4_096, 0]),
         vec![Step::Open(63, 1), Step::Open(64, 1)],
         [
-            in_turn(&[6, 2, 3]),
+            opens_in_turn(&[6, 2, 3]),
             vec![Step::Close(2), Step::Open(3, 3), Step::Close(2)],
         ]
         .concat(),
@@ -152,7 +154,7 @@ pub fn generated(seed: u64, count: u64, shape: Shape) -> Vec<Step> {
                 steps.push(step);
             }
         }
-        steps.extend(questions(18, &mut random));
+        steps.extend(questions(18, &held, &mut random));
         for _ in 0..3 {
             let changes = [
                 written(drawn_write(&held.record, &mut random)),
@@ -163,7 +165,7 @@ pub fn generated(seed: u64, count: u64, shape: Shape) -> Vec<Step> {
             for step in changes {
                 change(&mut held, step);
                 steps.push(step);
-                steps.extend(questions(1, &mut random));
+                steps.extend(questions(1, &held, &mut random));
             }
         }
     }
@@ -171,26 +173,60 @@ pub fn generated(seed: u64, count: u64, shape: Shape) -> Vec<Step> {
 }
 
 /// Owner, show, turns and walks, at rounds near 0, 2^32 and 2^64.
-fn questions(count: u64, random: &mut Random) -> Vec<Step> {
-    let near = |random: &mut Random| {
-        let center = random.pick(&[0, 1 << 32, u64::MAX]);
-        let away = random.below(6);
-        let (above, below) = (center.checked_add(away), center.checked_sub(away));
-        let either = [above.or(below), below.or(above)];
-        random.pick(&either).unwrap_or(center)
-    };
+fn questions(count: u64, held: &Held, random: &mut Random) -> Vec<Step> {
     let mut steps = Vec::new();
     for _ in 0..count {
         steps.push(Step::Owner(near(random)));
         steps.push(Step::Owner(random.draw()));
         steps.push(Step::Show(random.below(66)));
-        let rounds = [near(random) as u32, random.below(10_000) as u32];
-        steps.push(Step::Turns(random.below(66), random.pick(&rounds)));
+        steps.push(drawn_turns(random));
+        steps.extend(turns_in_record(held, random));
         let next = near(random);
         let owned = near(random);
         steps.push(Step::Walk(Place { next, owned }));
     }
     steps
+}
+
+/// A round near 0, 2^32 or 2^64.
+fn near(random: &mut Random) -> u64 {
+    let center = random.pick(&[0, 1 << 32, u64::MAX]);
+    let away = random.below(6);
+    let (above, below) = (center.checked_add(away), center.checked_sub(away));
+    let either = [above.or(below), below.or(above)];
+    random.pick(&either).unwrap_or(center)
+}
+
+/// Turns of any line, over any number of rounds.
+fn drawn_turns(random: &mut Random) -> Step {
+    let firsts = [near(random), random.draw()];
+    let counts = [near(random), random.below(10_000), random.draw()];
+    Step::Turns {
+        line: random.below(66),
+        first: random.pick(&firsts),
+        rounds: random.pick(&counts) as u32,
+    }
+}
+
+/// Turns of a line that has rows in the record, mostly over about its period; some are asked
+/// from a round that it owns, or from the next one. It is not open where the record is no
+/// tree.
+fn turns_in_record(held: &Held, random: &mut Random) -> Option<Step> {
+    let lines = held.record.lines_with_rows();
+    if lines.is_empty() {
+        return None;
+    }
+    let line = random.pick(&lines);
+    let period = show(&held.plan, line).map_or(1, |shown| shown.period.0.into());
+    let owned = lists::round_that_fits(&held.plan, line, random.draw()).unwrap_or(0);
+    let firsts = [near(random), near(random), random.draw(), owned, owned + 1];
+    let any = random.draw() as u32;
+    let counts = [0, 1, period - 1, period, period + 1, u32::MAX, any];
+    Some(Step::Turns {
+        line,
+        first: random.pick(&firsts),
+        rounds: random.pick(&counts),
+    })
 }
 
 fn step_of(order: [u8; ORDER_BYTES], random: &mut Random) -> Option<Step> {
@@ -217,7 +253,7 @@ pub fn write(steps: &[Step], out: &mut impl Write) -> io::Result<()> {
 /// whole step, end it.
 pub fn print_answers(script: &[u8], out: &mut impl Write) -> io::Result<()> {
     let mut held = Held::empty();
-    for bytes in script.chunks_exact(STEP_BYTES) {
+    for bytes in script.chunks_exact(HEAD_BYTES) {
         let Some(step) = bytes.try_into().ok().and_then(Step::of) else {
             break;
         };
@@ -227,8 +263,9 @@ pub fn print_answers(script: &[u8], out: &mut impl Write) -> io::Result<()> {
 }
 
 /// A step that changes the plan, without its answer.
-fn change(held: &mut Held, step: Step) {
+pub(crate) fn change(held: &mut Held, step: Step) {
     match step {
+        Step::Begin => *held = Held::empty(),
         Step::Open(line, period) => drop(held.open(line, period)),
         Step::Close(line) => drop(held.close(line)),
         Step::Write(place, number) => held.write(place, number),
@@ -267,9 +304,13 @@ fn print_question(plan: &Plan, step: Step, out: &mut impl Write) -> io::Result<(
     match step {
         Step::Owner(round) => writeln!(out, "owner {round} {}", owned(owner(plan, round))),
         Step::Show(line) => writeln!(out, "show {line} {}", shown(show(plan, line))),
-        Step::Turns(line, rounds) => {
-            let answer = turned(turns(plan, line, rounds));
-            writeln!(out, "turns {line} {rounds} {answer}")
+        Step::Turns {
+            line,
+            first,
+            rounds,
+        } => {
+            let answer = turned(turns(plan, line, first, rounds));
+            writeln!(out, "turns {line} {first} {rounds} {answer}")
         }
         Step::Walk(place) => print_walks(plan, place, out),
         _ => Ok(()),
@@ -343,12 +384,22 @@ mod tests {
             Step::Write(1_407, 65_535),
             Step::Owner(u64::MAX),
             Step::Show(64),
-            Step::Turns(3, u32::MAX),
+            Step::Turns {
+                line: 3,
+                first: next,
+                rounds: u32::MAX,
+            },
             Step::Walk(Place { next, owned: 5 }),
         ] {
             assert_eq!(Step::of(step.bytes()), Some(step));
         }
-        assert_eq!(Step::of([8; STEP_BYTES]), None);
+        for bytes in [
+            [8; HEAD_BYTES],
+            head::write(3, [0, 1 << 16, 0]),
+            head::write(6, [3, 0, 1 << 32]),
+        ] {
+            assert_eq!(Step::of(bytes), None);
+        }
     }
 
     fn answers(steps: &[Step]) -> String {
@@ -416,6 +467,11 @@ mod tests {
         ] {
             assert!(text.lines().any(|line| line.starts_with(start)), "{start}");
         }
+        for answer in [" 1 -", " 4 -", " 0 0", " 0 1", " 0 2", " 0 4294967295"] {
+            assert!(text
+                .lines()
+                .any(|line| line.starts_with("turns") && line.ends_with(answer)));
+        }
         for part in [" refused 9 ", "owner 0 idle"] {
             assert!(text.contains(part), "{part}");
         }
@@ -426,17 +482,52 @@ mod tests {
         }
     }
 
+    /// The generated part of the script that `.ci/run` composes.
+    fn stored_lists() -> Vec<Step> {
+        Shape::ALL.map(|shape| generated(1, 10, shape)).concat()
+    }
+
+    /// How many of the rounds fit the line (The lists of demand 3, 18): counted one by one
+    /// where they are few, else those below the end without those below the first.
+    fn fitting(shown: &Shown, first: u64, rounds: u32) -> u128 {
+        let (period, start) = (u128::from(shown.period.0), u128::from(shown.start.0));
+        let (first, end) = (first.into(), u128::from(first) + u128::from(rounds));
+        if rounds < 5_000 {
+            let fits = |round: &u128| round % period == start;
+            return (first..end).filter(fits).count() as u128;
+        }
+        let below = |round: u128| (round + period - 1 - start) / period;
+        below(end) - below(first)
+    }
+
+    /// After writes too, which no ledger has.
+    #[test]
+    fn turns_are_the_rounds_that_fit() {
+        let mut held = Held::empty();
+        for step in [cases(), stored_lists()].concat() {
+            change(&mut held, step);
+            let Step::Turns {
+                line,
+                first,
+                rounds,
+            } = step
+            else {
+                continue;
+            };
+            let fitting = show(&held.plan, line).map(|shown| fitting(&shown, first, rounds));
+            let answer = turns(&held.plan, line, first, rounds).map(u128::from);
+            assert_eq!(answer, fitting, "{line} {first} {rounds}");
+        }
+    }
+
     /// After a number is written the record is no tree, the same tree, or another one.
     #[test]
     fn generated_writes_leave_every_kind_of_record() {
         let mut seen = [0; 3];
         let mut held = Held::empty();
-        for step in generated(1, 40, Shape::named("full").unwrap()) {
+        for step in stored_lists() {
             let before = held.plan.clone();
-            match step {
-                Step::Begin => held = Held::empty(),
-                step => change(&mut held, step),
-            }
+            change(&mut held, step);
             if matches!(step, Step::Write(..)) {
                 let kind = match held.record.tree() {
                     None => 0,

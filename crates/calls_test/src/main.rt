@@ -15,6 +15,7 @@ use test_script::first_number;
 use test_script::run_owner;
 use test_script::second_number;
 use test_script::text;
+use test_script::third_number;
 use test_script::write_number;
 use tree::Period;
 use tree::Plan;
@@ -112,12 +113,14 @@ fn run_show(current: Plan, line: u64) {
     text(b"\n");
 }
 
-fn run_turns(current: Plan, line: u64, rounds: u32) {
+fn run_turns(current: Plan, line: u64, first: u64, rounds: u32) {
     text(b"turns ");
     decimal(line);
     text(b" ");
+    decimal(first);
+    text(b" ");
     decimal(rounds as u64);
-    match plan::ask::turns(current, line, rounds) {
+    match plan::ask::turns(current, line, first, rounds) {
         TurnsAnswer::Count(count) => {
             text(b" 0 ");
             decimal(count);
@@ -176,11 +179,11 @@ fn run_walk(current: Plan, place: WalkerPlace) {
 }
 
 // A step that asks the plan.
-fn run_question(current: Plan, kind: u8, first: u64, second: u64) {
+fn run_question(current: Plan, kind: u8, first: u64, second: u64, third: u64) {
     match kind {
         4 => run_owner(current, first),
         5 => run_show(current, first),
-        6 => run_turns(current, first, (second % 4294967296) as u32),
+        6 => run_turns(current, first, second, (third % 4294967296) as u32),
         _ => {
             run_walk(
                 current,
@@ -194,10 +197,11 @@ fn run_question(current: Plan, kind: u8, first: u64, second: u64) {
 }
 
 // One step: a call that changes the plan, the empty plan again, a number written over, or a question.
-fn run_step(current: Plan, step: &[u8; 17]) -> Plan {
+fn run_step(current: Plan, step: &[u8; 25]) -> Plan {
     let kind = step[0];
     let first = first_number(step);
     let second = second_number(step);
+    let third = third_number(step);
     match kind {
         0 => run_open(current, first, second),
         1 => run_close(current, first),
@@ -207,7 +211,7 @@ fn run_step(current: Plan, step: &[u8; 17]) -> Plan {
         }
         3 => write_number(current, first, second),
         _ => {
-            run_question(current, kind, first, second);
+            run_question(current, kind, first, second, third);
             current
         }
     }
@@ -220,8 +224,8 @@ struct Next {
 }
 
 fn run_next(current: Plan) -> Next {
-    let mut step = [0u8; 17];
-    if io::read_full(STDIN_FILENO, &mut step) < 17 {
+    let mut step = [0u8; 25];
+    if io::read_full(STDIN_FILENO, &mut step) < 25 {
         return Next {
             more: false,
             plan: current,

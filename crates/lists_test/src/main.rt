@@ -251,8 +251,8 @@ fn within(asked: u64, most: usize) -> usize
 }
 
 fn run_next(current: Plan, list: &mut [u8]) -> Next {
-    let mut step = [0u8; 17];
-    if io::read_full(STDIN_FILENO, &mut step) < 17 {
+    let mut step = [0u8; 25];
+    if io::read_full(STDIN_FILENO, &mut step) < 25 {
         return Next {
             more: false,
             plan: current,

@@ -6,8 +6,8 @@ use plan::ask::OwnerAnswer;
 use tree::Plan;
 
 // The 8 bytes from a place on, as a number, the most significant first.
-fn number(step: &[u8; 17], from: usize) -> u64
-    requires { ⌜ from + 8 ≤ 17 ⌝ }
+fn number(step: &[u8; 25], from: usize) -> u64
+    requires { ⌜ from + 8 ≤ 25 ⌝ }
 {
     let mut value: u64 = 0;
     let mut k = 0;
@@ -24,13 +24,17 @@ fn wide(byte: u8) -> u64
     byte as u64
 }
 
-// The first number of a step, which is a kind of one byte and two numbers.
-pub fn first_number(step: &[u8; 17]) -> u64 {
+// The first number of a step, which is a kind of one byte and three numbers.
+pub fn first_number(step: &[u8; 25]) -> u64 {
     number(step, 1)
 }
 
-pub fn second_number(step: &[u8; 17]) -> u64 {
+pub fn second_number(step: &[u8; 25]) -> u64 {
     number(step, 9)
+}
+
+pub fn third_number(step: &[u8; 25]) -> u64 {
+    number(step, 17)
 }
 
 pub fn text(words: &[u8]) {
