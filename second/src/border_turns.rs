@@ -106,14 +106,7 @@ fn first_rounds(shown: &Shown) -> BTreeSet<u64> {
 mod tests {
     use super::*;
     use crate::ask::owner;
-    use crate::script::{print_answers, write};
-
-    fn printed(steps: &[Step]) -> String {
-        let (mut script, mut text) = (Vec::new(), Vec::new());
-        write(steps, &mut script).unwrap();
-        print_answers(&script, &mut text).unwrap();
-        String::from_utf8(text).unwrap()
-    }
+    use crate::script::tests::answers;
 
     /// Each write does what its plan says.
     #[test]
@@ -156,7 +149,7 @@ mod tests {
     /// Counted by hand; 2^64 leaves 4 when divided by 6 or 12, 16 by 4,095 and 2 by 7.
     #[test]
     fn border_turns_print_their_answers() {
-        let text = printed(&border_turns());
+        let text = answers(&border_turns());
         for turns in [
             // 6@1 of case A
             "2 0 1 0 0",

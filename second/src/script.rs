@@ -371,7 +371,7 @@ fn number(answer: Result<(), Refusal>) -> u8 {
 }
 
 #[cfg(test)]
-mod tests {
+pub(crate) mod tests {
     use super::*;
 
     #[test]
@@ -402,7 +402,7 @@ mod tests {
         }
     }
 
-    fn answers(steps: &[Step]) -> String {
+    pub(crate) fn answers(steps: &[Step]) -> String {
         let mut script = Vec::new();
         write(steps, &mut script).unwrap();
         let mut text = Vec::new();
