@@ -1,4 +1,4 @@
-//! The same calls put to the second program, which is written from document 01 alone: every answer agrees.
+//! The same calls put to the second program, which is written from documents 01 and 02 alone: every answer agrees.
 
 use gaplinte::{raw, Answered, Answers, Call, Line, Period, Plan, Refusal, Round, Start, Walker};
 use second::orders::{self, Order};
@@ -57,12 +57,13 @@ fn same_lines(plan: &Plan, other: &tree::Plan) {
     assert!(lines.eq(expected));
 }
 
-/// Turns of a line on two plans: in no rounds, in about as many as its period, in the most and in any number of them.
+/// Turns of a line on two plans, from a round near a border or from any on: in no rounds, in about as many as its
+/// period, in the most and in any number of them.
 fn same_turns(plan: &Plan, other: &tree::Plan, line: u64, random: &mut Random) {
     let period = ask::show(other, line).map_or(1, |shown| shown.period.0.into());
     let near = random.below(5000);
     let middle = 1 << 32;
-    for first in [
+    let firsts = [
         0,
         near,
         middle - near,
@@ -70,13 +71,13 @@ fn same_turns(plan: &Plan, other: &tree::Plan, line: u64, random: &mut Random) {
         u64::MAX - near,
         u64::MAX,
         random.draw(),
-    ] {
-        let any = random.draw() as u32;
-        for rounds in [0, 1, period - 1, period, period + 1, u32::MAX, any] {
-            let turns = numbered(plan.turns(Line(line), Round(first), rounds));
-            let expected = numbered_second(ask::turns(other, line, first, rounds));
-            assert_eq!(turns, expected, "line {line}, {rounds} rounds from {first}");
-        }
+    ];
+    let first = random.pick(&firsts);
+    let any = random.draw() as u32;
+    for rounds in [0, 1, period - 1, period, period + 1, u32::MAX, any] {
+        let turns = numbered(plan.turns(Line(line), Round(first), rounds));
+        let expected = numbered_second(ask::turns(other, line, first, rounds));
+        assert_eq!(turns, expected, "line {line}, {rounds} rounds from {first}");
     }
 }
 

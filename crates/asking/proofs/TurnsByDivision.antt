@@ -17,7 +17,7 @@ use Rattle.tree.proofs.Standing.{open-stands, start-below-period}
 use Rattle.tree.proofs.Ownership.{owns-by-times}
 use Rattle.asking.specs.Turns.{until-turn, turns-in}
 
--- The numbers i below N with i mod q = u
+-- The numbers i below N with i mod q = u: as many as q goes into N + (q - 1 - u)
 
 module _ (q u : ℕ) (below : u < q) where
   some-rounds : 0 < q
@@ -34,7 +34,7 @@ module _ (q u : ℕ) (below : u < q) where
   once : (n : ℕ) → q ≤ n → n < 2 * q → n / q ≡ 1
   once n low high = div-eq-of-lt-le q (omega arith) (omega arith)
 
-  -- from n to n + 1 the quotient of what is q - 1 - u larger grows where n mod q = u, and only there
+  -- that quotient is 1 larger at n + 1 than at n where n mod q = u, else the same
   one-round : (n : ℕ) → (n + (q - u)) / q ≡ (n + (q - 1 - u)) / q + (if eqb (n % q) u then 1 else 0)
   one-round n =
       let left = mod-lt n some-rounds in
