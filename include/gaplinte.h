@@ -156,9 +156,9 @@ GAPLINTE_NODISCARD int64_t gaplinte_owner(const gaplinte_plan *plan, uint64_t ro
 /* Shows a line: its period, start and path are written. The value is 0. Refused with 1 or 4. */
 GAPLINTE_NODISCARD int64_t gaplinte_show(const gaplinte_plan *plan, uint64_t line, gaplinte_shown *shown);
 
-/* The turns of a line. The value is exactly how many of so many rounds from the first on the line owns. It can be
- * 2^32 - 1, for which an int32_t is too narrow. Rounds are whole numbers: those from 2^64 on count too, though no
- * uint64_t holds them. 0 rounds give 0. Refused with 1 or 4. */
+/* The turns of a line. The value is exactly how many rounds the line owns among so many that begin with `first`. It
+ * can be 2^32 - 1, for which an int32_t is too narrow. Rounds are whole numbers: those from 2^64 on count too, though
+ * no uint64_t holds them. 0 rounds give 0. Refused with 1 or 4. */
 GAPLINTE_NODISCARD int64_t gaplinte_turns(const gaplinte_plan *plan, uint64_t line, uint64_t first, uint32_t rounds);
 
 /* The walker. The value is the owner of the next round, a line or GAPLINTE_IDLE; the place moves on by that round, and

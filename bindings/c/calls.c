@@ -1,4 +1,4 @@
-/* Each call of include/gaplinte.h from C, with answers that document 01 gives: so that the declarations are those of
+/* Each call of include/gaplinte.h from C, with answers that documents 01 and 02 give: so that the declarations are those of
  * the library. Prints what differs, and exits with 1 if anything does. It is C++ too. */
 #include <inttypes.h>
 #include <stdio.h>

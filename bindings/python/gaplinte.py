@@ -11,7 +11,7 @@ Traceback (most recent call last):
 gaplinte.Refused: refused with 3: the line is open already
 
 A refused call raises Refused, and leaves plan and walker as found. A number that does not fit into the 64 bits of a
-line, a period or a round (32 for how many rounds turns is asked of) raises OverflowError, so that none is cut.
+line, a period or a round (32 for the number of rounds that turns takes) raises OverflowError, so that none is cut.
 Different plans may be used in different threads; while one thread changes a plan, no other may use it.
 
 The shared library is the file that the environment variable GAPLINTE_LIBRARY names, or else
@@ -243,7 +243,7 @@ class Plan:
         return lines
 
     def turns(self, line: int, first: int, rounds: int) -> int:
-        """Exactly how many of so many rounds from the first on the line owns, past 2**64 too. Refused with 1 or 4."""
+        """Exactly how many rounds the line owns among so many from first on, past 2**64 too. Refused with 1 or 4."""
         return _value(_library.gaplinte_turns(self._record, _number(line), _number(first), _number(rounds, 32)))
 
     def run_list(self, orders: bytes) -> list[Answer]:

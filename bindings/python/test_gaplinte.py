@@ -1,4 +1,4 @@
-"""The calls of gaplinte.py, with answers that document 01 gives."""
+"""The calls of gaplinte.py, with answers that documents 01 and 02 give."""
 
 import array
 import copy

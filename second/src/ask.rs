@@ -57,9 +57,9 @@ pub fn show(plan: &Plan, line: u64) -> Result<Shown, Refusal> {
     })
 }
 
-/// How many of the rounds from the first on the line owns, as whole numbers (document 02,
-/// Ask 1). As many rounds in succession as its period have one that it owns (The tree, 7
-/// and 12), so that only those after the last whole period are walked.
+/// How many rounds the line owns among so many that begin with the first, as whole numbers
+/// (document 02, Ask 1). As many rounds in succession as its period have one that it owns
+/// (The tree, 7 and 12), so that only those after the last whole period are walked.
 pub fn turns(plan: &Plan, line: u64, first: u64, rounds: u32) -> Result<u64, Refusal> {
     let period = u32::from(show(plan, line)?.period.0);
     let end = u128::from(first) + u128::from(rounds);

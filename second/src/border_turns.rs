@@ -34,8 +34,8 @@ pub fn border_turns() -> Vec<Step> {
         .collect()
 }
 
-/// The plan as it was opened, as the other tree and as no tree, this one asked what the other
-/// tree is.
+/// The turns of the plan as opened, then those of the other tree, then these once more of the
+/// record that is no tree.
 fn asked_thrice(periods: &[u64], other_tree: Step, no_tree: Step) -> Vec<Step> {
     let mut held = Held::empty();
     let mut steps = [vec![Step::Begin], opens_in_turn(periods)].concat();

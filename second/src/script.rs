@@ -208,9 +208,8 @@ fn drawn_turns(random: &mut Random) -> Step {
     }
 }
 
-/// Turns of a line that has rows in the record, mostly over about its period; some are asked
-/// from a round that it owns, or from the next one. It is not open where the record is no
-/// tree.
+/// Turns of a line that has rows in the record, some over about its period, some from a round
+/// that it owns, or from the next one. It is not open where the record is no tree.
 fn turns_in_record(held: &Held, random: &mut Random) -> Option<Step> {
     let lines = held.record.lines_with_rows();
     if lines.is_empty() {

@@ -131,8 +131,8 @@ impl Plan {
         })
     }
 
-    /// Turns of a line: exactly how many of so many rounds from the first on it owns. Rounds are whole numbers: those
-    /// from 2^64 on count too, though no [`Round`] holds them. 0 rounds give 0.
+    /// Turns of a line: exactly how many rounds it owns among so many that begin with `first`. Rounds are whole
+    /// numbers: those from 2^64 on count too, though no [`Round`] holds them. 0 rounds give 0.
     ///
     /// # Errors
     ///

@@ -81,8 +81,8 @@ pub fn show(rows: &[u16; PLAN_NUMBERS], line: u64, shown: &mut [u16; SHOWN_NUMBE
     foreign::gaplinte_show(rows, line, shown)
 }
 
-/// Turns of a line; the value is exactly how many of so many rounds from the first on it owns, past 2^64 too. Refused
-/// with 1 or 4.
+/// Turns of a line; the value is exactly how many rounds it owns among so many that begin with `first`, past 2^64 too.
+/// Refused with 1 or 4.
 #[must_use]
 pub fn turns(rows: &[u16; PLAN_NUMBERS], line: u64, first: u64, rounds: u32) -> i64 {
     foreign::gaplinte_turns(rows, line, first, rounds)

@@ -1,4 +1,5 @@
-//! The same calls put to the second program, which is written from documents 01 and 02 alone: every answer agrees.
+//! The same calls put to the second program, which is written from document 01 and, of document 02, Ask 1 alone: every
+//! answer agrees.
 
 use gaplinte::{raw, Answered, Answers, Call, Line, Period, Plan, Refusal, Round, Start, Walker};
 use second::orders::{self, Order};
@@ -208,7 +209,9 @@ fn damaged_records() {
             same_lines(&plan, &held.plan);
 
             let (line, period) = (random.below(64), random.below(4096));
-            same_turns(&plan, &held.plan, line, &mut random);
+            let mut lines: Vec<u64> = plan.lines().map(|open| open.line.0).collect();
+            lines.push(line);
+            same_turns(&plan, &held.plan, random.pick(&lines), &mut random);
             let answer = plan.close(Line(line));
             assert_eq!(numbered(answer), numbered_second(held.close(line)));
             let answer = plan.open(Line(line), Period(period)).map(|start| start.0);

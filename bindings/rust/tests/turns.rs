@@ -39,13 +39,13 @@ fn from_a_first_round_on() {
 fn past_64_bits() {
     let plan = opened(&CASE_A);
     let first = u64::MAX;
-    // from 2^64 on
+    // owns 2^64, 2^64 + 4, ..
     expect(&plan, 1, first, &[(1, 0), (2, 1), (5, 1), (6, 2)]);
-    // from 2^64 + 3 on
+    // owns 2^64 + 3, 2^64 + 9, ..
     expect(&plan, 2, first, &[(4, 0), (5, 1), (10, 1), (11, 2)]);
-    // from 2^64 + 2 on
+    // owns 2^64 + 2, 2^64 + 10, ..
     expect(&plan, 3, first, &[(3, 0), (4, 1), (11, 1), (12, 2)]);
-    // 2^64 - 1, and again from 2^64 + 11 on
+    // owns 2^64 - 1, 2^64 + 11, ..
     expect(&plan, 4, first, &[(0, 0), (1, 1), (12, 1), (13, 2)]);
     expect(&plan, 4, first - 11, &[(11, 0), (12, 1), (23, 1), (24, 2)]);
 }

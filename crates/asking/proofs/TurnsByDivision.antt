@@ -15,51 +15,51 @@ use Rattle.tree.specs.Asking.{turns}
 use Rattle.tree.proofs.Proper.{legal-proper}
 use Rattle.tree.proofs.Standing.{open-stands, start-below-period}
 use Rattle.tree.proofs.Ownership.{owns-by-times}
-use Rattle.asking.specs.Turns.{until-turn, turns-in}
+use Rattle.asking.specs.Turns.{until-turn, turns-by-times}
 
 -- The numbers i below N with i mod q = u: as many as q goes into N + (q - 1 - u)
 
 module _ (q u : ℕ) (below : u < q) where
-  some-rounds : 0 < q
-  some-rounds = omega arith
+  period-positive : 0 < q
+  period-positive = omega arith
 
   div-of-sum : (n c : ℕ) → (n + c) / q ≡ (n % q + c) / q + n / q
   div-of-sum n c =
       let parts : n + c ≡ n % q + c + q * (n / q) = omega (arith, mod-add-div n q) in
-      ap (λ (m : ℕ). m / q) parts ∙ add-mul-div-left (n % q + c) (n / q) some-rounds
+      ap (λ (m : ℕ). m / q) parts ∙ add-mul-div-left (n % q + c) (n / q) period-positive
 
-  never : (n : ℕ) → n < q → n / q ≡ 0
-  never n less = div-eq-of-lt less
+  quotient-0 : (n : ℕ) → n < q → n / q ≡ 0
+  quotient-0 n less = div-eq-of-lt less
 
-  once : (n : ℕ) → q ≤ n → n < 2 * q → n / q ≡ 1
-  once n low high = div-eq-of-lt-le q (omega arith) (omega arith)
+  quotient-1 : (n : ℕ) → q ≤ n → n < 2 * q → n / q ≡ 1
+  quotient-1 n low high = div-eq-of-lt-le q (omega arith) (omega arith)
 
   -- that quotient is 1 larger at n + 1 than at n where n mod q = u, else the same
   one-round : (n : ℕ) → (n + (q - u)) / q ≡ (n + (q - 1 - u)) / q + (if eqb (n % q) u then 1 else 0)
   one-round n =
-      let left = mod-lt n some-rounds in
+      let remainder-below = mod-lt n period-positive in
       let with-it = div-of-sum n (q - u) in
       let so-far = div-of-sum n (q - 1 - u) in
       elim (decLt (n % q) u) [
         | yes earlier ↦
-            let a = never (n % q + (q - u)) (omega arith) in
-            let b = never (n % q + (q - 1 - u)) (omega arith) in
+            let a = quotient-0 (n % q + (q - u)) (omega arith) in
+            let b = quotient-0 (n % q + (q - 1 - u)) (omega arith) in
             rw (ne-eqb (n % q) u (λ e. omega arith)) (omega arith)
         | no e ↦ elim (decLt u (n % q)) [
           | yes later ↦
-              let a = once (n % q + (q - u)) (omega arith) (omega arith) in
-              let b = once (n % q + (q - 1 - u)) (omega arith) (omega arith) in
+              let a = quotient-1 (n % q + (q - u)) (omega arith) (omega arith) in
+              let b = quotient-1 (n % q + (q - 1 - u)) (omega arith) (omega arith) in
               rw (ne-eqb (n % q) u (λ e. omega arith)) (omega arith)
           | no l ↦
-              let a = once (n % q + (q - u)) (omega arith) (omega arith) in
-              let b = never (n % q + (q - 1 - u)) (omega arith) in
+              let a = quotient-1 (n % q + (q - u)) (omega arith) (omega arith) in
+              let b = quotient-0 (n % q + (q - 1 - u)) (omega arith) in
               rw (eq-eqb (n % q) u (omega arith)) (omega arith)
         ]
       ]
 
   count-by-quotient : (N : ℕ) → count-below N (λ i. eqb (i % q) u) ≡ (N + (q - 1 - u)) / q
   unfolding count-below total-below
-  count-by-quotient zero = sym (never (0 + (q - 1 - u)) (omega arith))
+  count-by-quotient zero = sym (quotient-0 (0 + (q - 1 - u)) (omega arith))
   count-by-quotient (suc N) =
       let after : N + (q - u) ≡ suc N + (q - 1 - u) = omega arith in
       rw (count-by-quotient N, ← after) (sym (one-round N))
@@ -70,8 +70,8 @@ module _ (q u : ℕ) (below : u < q) where
       elim (decLt u N) [
         | yes reached ↦
             let parts : N + (q - 1 - u) ≡ N - 1 - u + q = omega arith in
-            rw (lt-ltb u N reached, parts) (add-div-right (N - 1 - u) some-rounds)
-        | no short ↦ rw (le-ltb u N (omega arith)) (never (N + (q - 1 - u)) (omega arith))
+            rw (lt-ltb u N reached, parts) (add-div-right (N - 1 - u) period-positive)
+        | no short ↦ rw (le-ltb u N (omega arith)) (quotient-0 (N + (q - 1 - u)) (omega arith))
       ]
 
 -- The rounds from a on that fit a line of period q and start u
@@ -79,14 +79,14 @@ module _ (q u : ℕ) (below : u < q) where
 -- the next one is less than a period away
 pub until-below : (q u a : ℕ) → 0 < q → until-turn q u a < q
 unfolding until-turn
-until-below q u a some-rounds = mod-lt (u + q - a % q) some-rounds
+until-below q u a period-positive = mod-lt (u + q - a % q) period-positive
 
 module _ (q u : ℕ) (below : u < q) (a : ℕ) where
   -- after so many rounds comes one that fits
   until-fits : (a + until-turn q u a) % q ≡ u
   unfolding until-turn
   until-fits =
-      let left = mod-lt a (some-rounds q u below) in
+      let remainder-below = mod-lt a (period-positive q u below) in
       let sum : a % q + (u + q - a % q) ≡ u + q = omega arith in
       sym (mod-add-mod a q (until-turn q u a)) ∙ add-mod-mod (a % q) (u + q - a % q) q ∙ ap (λ (n : ℕ). n % q) sum ∙ add-mod-right u q ∙ mod-eq-of-lt below
 
@@ -94,7 +94,7 @@ module _ (q u : ℕ) (below : u < q) (a : ℕ) where
   fits-until : (i : ℕ) → (a + i) % q ≡ u → i % q ≡ until-turn q u a
   unfolding until-turn
   fits-until i fits =
-      let left = mod-lt a (some-rounds q u below) in
+      let remainder-below = mod-lt a (period-positive q u below) in
       let sum : a + i + (q - a % q) ≡ i + q * (a / q + 1) = omega (arith, mod-add-div a q) in
       let same : u + q - a % q ≡ u + (q - a % q) = omega arith in
       rw (same, ← fits, mod-add-mod (a + i) q (q - a % q), sum) (sym (add-mul-mod-self-left i q (a / q + 1)))
@@ -107,16 +107,16 @@ module _ (q u : ℕ) (below : u < q) (a : ℕ) where
       by-test false e =
           sym (ne-eqb _ _ (λ h. eqb-false _ _ e (sym (add-mod-mod a i q) ∙ ap (λ (n : ℕ). (a + n) % q) h ∙ until-fits)))
 
-  fitting-by-division : (N : ℕ) → count-below N (λ i. eqb ((a + i) % q) u) ≡ turns-in q u a N
-  unfolding turns-in
+  fitting-by-division : (N : ℕ) → count-below N (λ i. eqb ((a + i) % q) u) ≡ turns-by-times q u a N
+  unfolding turns-by-times
   fitting-by-division N =
-      let less = until-below q u a (some-rounds q u below) in
+      let less = until-below q u a (period-positive q u below) in
       (λ k. count-below N (λ i. same-test i k))
       ∙ count-by-quotient q (until-turn q u a) less N
       ∙ quotient-from-first q (until-turn q u a) less N
 
 -- (Ask 1, 2) The turns of an open line, of N rounds from a on: those that fit its period and start, by division.
-pub turns-by-division : (t : Tree) → Legal t → (L : ℕ) → is-open L t ≡ true → (a N : ℕ) → turns L a N t ≡ turns-in (period-of L t) (start-of L t) a N
+pub turns-by-division : (t : Tree) → Legal t → (L : ℕ) → is-open L t ≡ true → (a N : ℕ) → turns L a N t ≡ turns-by-times (period-of L t) (start-of L t) a N
 unfolding turns
 turns-by-division t is-legal L there a N =
     let stands = open-stands L t there in

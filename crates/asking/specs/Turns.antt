@@ -1,5 +1,5 @@
--- Turns by division, for a line of period p and start s: the formula that `turns_of` computes.
--- That it is how many rounds the line owns is a law, proofs/TurnsByDivision.antt.
+-- Turns by a line's times, period p and start s: the formula that `turns_of` computes. That it is how many rounds the line owns is a law,
+-- proofs/TurnsByDivision.antt.
 -- Assumes nothing.
 use Prim.Native.Nat.{ℕ, _+_, _-_, _/_, _%_}
 use lib.Dec.{ltb}
@@ -9,6 +9,6 @@ use Rattle.tree.specs.Search.{if_then_else_}
 unfoldable pub until-turn : ℕ → ℕ → ℕ → ℕ
 until-turn p s a = (s + p - a % p) % p
 
--- of the N rounds from a on that one fits, if it is among them, and one for each whole period after it
-unfoldable pub turns-in : ℕ → ℕ → ℕ → ℕ → ℕ
-turns-in p s a N = if ltb (until-turn p s a) N then (N - 1 - until-turn p s a) / p + 1 else 0
+-- among N rounds that begin with a: that one, if they come to it, and one more for each whole period after it
+unfoldable pub turns-by-times : ℕ → ℕ → ℕ → ℕ → ℕ
+turns-by-times p s a N = if ltb (until-turn p s a) N then (N - 1 - until-turn p s a) / p + 1 else 0

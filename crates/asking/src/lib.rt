@@ -9,7 +9,7 @@ ghost use Rattle.tree.specs.Asking.{rows-11};
 ghost use Rattle.tree.specs.Record.{path-at, legal};
 ghost use Rattle.paths.specs.Rules.{line-under, walk-on-paths, owner-on-paths};
 ghost use Rattle.asking.specs.Answers.{line-through, takes-edge, first-open, owner-answered};
-ghost use Rattle.asking.specs.Turns.{until-turn, turns-in};
+ghost use Rattle.asking.specs.Turns.{until-turn, turns-by-times};
 use tree::Period;
 use tree::Row;
 use tree::Start;
@@ -150,8 +150,8 @@ pub fn rows_of(rows: &[u16; 1408], line: usize) -> [Row; 11]
     path
 }
 
-// How many rounds lie from a round to the next one that fits a line's times, which may be the round itself. The round's
-// remainder is taken first, so that no sum passes 64 bits.
+// How many rounds lie from a round to the next one that fits a line's times, which may be the round itself. Of a large
+// round only the remainder enters the sum.
 fn until_turn(times: Times, first: u64) -> u64
     requires { ⌜ 0 < times .period .0 ⌝ }
     ensures { λ r. ⌜ r ≡ until-turn (times .period .0) (times .start .0) first ⌝ }
@@ -161,16 +161,16 @@ fn until_turn(times: Times, first: u64) -> u64
     (start + period - first % period) % period
 }
 
-// Turns of a line with these times in so many rounds from the first on, those past 2^64 among them. So many rounds as
-// `needed` are needed to come to a turn.
+// How many rounds a line with these times owns among so many that begin with `first`, those past 2^64 included. Fewer
+// rounds than `needed` end before its next turn.
 pub fn turns_of(times: Times, first: u64, rounds: u32) -> u64
     requires { ⌜ 0 < times .period .0 ⌝ }
-    ensures { λ r. ⌜ r ≡ turns-in (times .period .0) (times .start .0) first rounds ⌝ }
+    ensures { λ r. ⌜ r ≡ turns-by-times (times .period .0) (times .start .0) first rounds ⌝ }
 {
     let needed = until_turn(times, first) + 1;
-    let all = rounds as u64;
-    if all < needed {
+    let asked = rounds as u64;
+    if asked < needed {
         return 0;
     }
-    (all - needed) / (times.period.0 as u64) + 1
+    (asked - needed) / (times.period.0 as u64) + 1
 }

@@ -1,9 +1,9 @@
--- Asking a record: owner, show and turns over the record's paths answer what the rules answer on its tree.
+-- Asking a record: owner and show over the record's paths answer what the rules answer on its tree; which calls are refused.
 -- Assumes nothing.
 use Prim.Native.Nat.{ℕ, _<_, _≤_}
 use native.Mathlib.Omega.{arith}
 use mathlib.Core.Path.{_≡_, _∙_, ap}
-use mathlib.Core.Bool.{true, false, not}
+use mathlib.Core.Bool.{Bool, true, false, not}
 use mathlib.Core.List.{List}
 use mathlib.Core.Option.{none, some}
 use Rattle.tree.specs.Search.{found}
@@ -63,20 +63,23 @@ module _ (rows : List ℕ) where
     owner-on-record n = owner-is (tree-of rows) (legal-on-record rows) (path-at rows) (paths-on-record rows is-legal) n
 
     module _ (L : ℕ) (number : L ≤ 63) where
+      pub open-by-rows : (b : Bool) → no-rows (path-at rows L) ≡ b → is-open L (tree-of rows) ≡ not b
+      open-by-rows b rows-are = open-on-record rows is-legal L (omega arith) ∙ ap not rows-are
+
       allowed : no-rows (path-at rows L) ≡ false → line-refusal L (tree-of rows) ≡ none
-      allowed there = close-allowed L (tree-of rows) number (open-on-record rows is-legal L (omega arith) ∙ ap not there)
+      allowed there = close-allowed L (tree-of rows) number (open-by-rows false there)
 
       refused : no-rows (path-at rows L) ≡ true → line-refusal L (tree-of rows) ≡ some 4
-      refused absent = line-refused-4 L (tree-of rows) number (open-on-record rows is-legal L (omega arith) ∙ ap not absent)
+      refused absent = line-refused-4 L (tree-of rows) number (open-by-rows true absent)
 
       pub shown-on-record : no-rows (path-at rows L) ≡ false →
           show-outcome L (tree-of rows) ≡ gives (record { period = product (path-at rows L); start = sum (path-at rows L); rows = rows-11 (path-at rows L) })
       unfolding show-outcome gives-unless shown period-of start-of
       shown-on-record there = rw (allowed there, ← paths-on-record rows is-legal L (omega arith))
 
-      pub turns-on-record : (a N : ℕ) → no-rows (path-at rows L) ≡ false → turns-outcome L a N (tree-of rows) ≡ gives (turns L a N (tree-of rows))
+      pub turns-not-refused : (a N : ℕ) → no-rows (path-at rows L) ≡ false → turns-outcome L a N (tree-of rows) ≡ gives (turns L a N (tree-of rows))
       unfolding turns-outcome gives-unless
-      turns-on-record a N there = rw (allowed there)
+      turns-not-refused a N there = rw (allowed there)
 
       pub shown-refused-4 : no-rows (path-at rows L) ≡ true → show-outcome L (tree-of rows) ≡ refuses 4
       shown-refused-4 absent = shown-refused L 4 (tree-of rows) (refused absent)

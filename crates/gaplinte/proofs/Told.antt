@@ -1,4 +1,4 @@
--- An answer of a call tells its outcome, since no refusal is 0: the calls refuse with 1 to 9 alone, and every value has 32 bits.
+-- An answer of a call tells its outcome, since no refusal is 0: the calls refuse with 1 to 9 alone, and every value is below 2^32.
 -- Assumes nothing.
 use Prim.Native.Nat.{ℕ, zero, suc, _-_, _^_, _%_, _<_, _≤_}
 use native.Mathlib.Omega.{arith}

@@ -1,4 +1,4 @@
--- The values that calls give, with their bounds: a line, a turns figure, the line of an order that was read.
+-- The values that calls give, with their bounds: a line, a number of turns, the line of an order that was read.
 -- Assumes nothing.
 use Prim.Native.Nat.{ℕ, zero, suc, _+_, _<_, _≤_}
 use native.Mathlib.Omega.{arith}

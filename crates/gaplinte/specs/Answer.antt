@@ -33,7 +33,7 @@ unfoldable pub outcome-told : ℤ → Outcome ℕ
 outcome-told (pos n) = gives n
 outcome-told (negsuc n) = refuses (suc n)
 
--- A refusal is one of document 01's numbers, 1 to 9, as demand 1 asks of every call. A value has 32 bits.
+-- A refusal is one of document 01's numbers, 1 to 9, as demand 1 asks of every call. A value is below 2^32.
 unfoldable pub InRange : Outcome ℕ → Type 0
 InRange (gives n) = n < 2 ^ 32
 InRange (refuses n) = (1 ≤ n) × (n ≤ 9)

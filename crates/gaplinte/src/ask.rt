@@ -20,7 +20,7 @@ pub extern "C" fn gaplinte_owner(rows: &[u16; 1408], round: u64) -> i64
     }
 }
 
-// Turns: how many of so many rounds from the first on a line owns.
+// Turns: how many rounds a line owns among so many that begin with `first`.
 #[no_mangle]
 pub extern "C" fn gaplinte_turns(rows: &[u16; 1408], line: u64, first: u64, rounds: u32) -> i64
     ensures { λ r. ⌜ r ≡ answer-number (turns-outcome line first rounds (tree-of (now (rows .entry)))) ⌝ }

@@ -3,12 +3,12 @@
 use Prim.Native.Nat.{ℕ, _<_, _≤_}
 use native.Mathlib.Omega.{arith}
 use mathlib.Core.Path.{_≡_, sym, _∙_, ap}
-use mathlib.Core.Bool.{true, false, not}
+use mathlib.Core.Bool.{true, false}
 use mathlib.Core.List.{List, []}
 use mathlib.Core.Logic.{⊎-elim}
 use Rattle.tree.specs.declared.Period.{Period}
 use Rattle.tree.specs.declared.Start.{Start}
-use Rattle.tree.specs.Tree.{Tree, product, sum, is-open, period-of, start-of}
+use Rattle.tree.specs.Tree.{Tree, product, sum, period-of, start-of}
 use Rattle.tree.specs.Asking.{rows-11}
 use Rattle.tree.specs.Calls.{gives, refuses, show-outcome, turns-outcome}
 use Rattle.tree.specs.Record.{path-at, no-rows, legal}
@@ -16,9 +16,9 @@ use Rattle.paths.specs.declared.Found.the-variants.{At, Nothing}
 use Rattle.paths.proofs.PathLength.{lookup-nothing, lookup-at}
 use Rattle.paths.proofs.PathRest.{path-rest-start, path-rest-product}
 use Rattle.bridge.specs.Rows.{tree-of}
-use Rattle.bridge.proofs.TreeOfRecord.{legal-on-record, paths-on-record, open-on-record}
-use Rattle.bridge.proofs.AskingRecords.{shown-refused-1, shown-refused-4, shown-on-illegal, shown-on-record, turns-refused-1, turns-refused-4, turns-on-illegal, turns-on-record}
-use Rattle.asking.specs.Turns.{turns-in}
+use Rattle.bridge.proofs.TreeOfRecord.{legal-on-record, paths-on-record}
+use Rattle.bridge.proofs.AskingRecords.{shown-refused-1, shown-refused-4, shown-on-illegal, shown-on-record, turns-refused-1, turns-refused-4, turns-on-illegal, open-by-rows, turns-not-refused}
+use Rattle.asking.specs.Turns.{turns-by-times}
 use Rattle.asking.proofs.TurnsByDivision.{turns-by-division}
 use Rattle.plan.specs.declared.ask.ShowAnswer.the-variants.{Times, Refused}
 use Rattle.plan.specs.Lookup.{line-found}
@@ -63,14 +63,11 @@ module _ (rows : List ℕ) where
           let outcome = shown-on-record rows found-legal L number has-rows in
           record { answer-is = rw (period-is, start-is) (sym outcome); rows-are = sym (ap rows-beside outcome) }
 
-      is-there : is-open L (tree-of rows) ≡ true
-      is-there = open-on-record rows found-legal L (omega arith) ∙ ap not has-rows
-
-      pub turns-found : (a N : ℕ) → turns-outcome L a N (tree-of rows) ≡ gives (turns-in (product (path-at rows L)) (sum (path-at rows L)) a N)
+      pub turns-found : (a N : ℕ) → turns-outcome L a N (tree-of rows) ≡ gives (turns-by-times (product (path-at rows L)) (sum (path-at rows L)) a N)
       unfolding period-of start-of
       turns-found a N =
-          let by-division = turns-by-division (tree-of rows) (legal-on-record rows) L is-there a N in
-          turns-on-record rows found-legal L number a N has-rows ∙ ap gives (rw (← paths-on-record rows found-legal L (omega arith)) at by-division)
+          let by-division = turns-by-division (tree-of rows) (legal-on-record rows) L (open-by-rows rows found-legal L number false has-rows) a N in
+          turns-not-refused rows found-legal L number a N has-rows ∙ ap gives (rw (← paths-on-record rows found-legal L (omega arith)) at by-division)
 
 -- a period is at least 1
 pub period-positive : (rows : List ℕ) (L : ℕ) → 1 ≤ product (path-at rows L)

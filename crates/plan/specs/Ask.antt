@@ -1,4 +1,4 @@
--- Document 01's answer for each case of what owner, show and turns give.
+-- The rules' answer for each case of what owner, show and turns give.
 -- Assumes nothing.
 use Prim.Native.Nat.{ℕ}
 use mathlib.Core.Path.{_≡_}

@@ -99,8 +99,8 @@ pub fn show(plan: Plan, line: u64) -> Showing
     show_rows(&plan.rows, line)
 }
 
-// Turns by a record that is lent: how many of so many rounds from the first on a line owns, or a refusal with 1 or 4. The
-// rounds are whole numbers and may pass 2^64.
+// Turns by a record that is lent: how many rounds a line owns among so many that begin with `first`, or a refusal with 1
+// or 4. The rounds are whole numbers and may pass 2^64.
 pub fn turns_rows(rows: &[u16; 1408], line: u64, first: u64, rounds: u32) -> TurnsAnswer
     ensures { λ r. ⌜ turns-answer r ≡ turns-outcome line first rounds (tree-of (now (rows .entry))) ⌝ }
 {
@@ -112,8 +112,7 @@ pub fn turns_rows(rows: &[u16; 1408], line: u64, first: u64, rounds: u32) -> Tur
     let Found::At(_) = found else {
         return TurnsAnswer::Refused(4);
     };
-    let times = asking::times_of(rows, at);
-    let count = asking::turns_of(times, first, rounds);
+    let count = asking::turns_of(asking::times_of(rows, at), first, rounds);
     TurnsAnswer::Count(count)
 }
 

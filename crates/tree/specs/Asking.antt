@@ -53,6 +53,6 @@ is-line L (some M) = eqb M L
 unfoldable pub owns : ℕ → ℕ → Tree → Bool
 owns L n t = is-line L (owner n t)
 
--- (Ask 1, 2, 3) Turns of line L: how many of the N rounds from a on it owns. A round is a whole number, without a bound.
+-- (Ask 1, 2, 3) Turns: how many rounds line L owns among N that begin with a. They are whole numbers, so that none is too large.
 unfoldable pub turns : ℕ → ℕ → ℕ → Tree → ℕ
 turns L a N t = count-below N (λ i. owns L (a + i) t)

@@ -7,7 +7,7 @@ use mathlib.Core.Path.{_≡_}
 use mir.Syntax.{w64}
 use borrow.Author.Needs.{needs, fits-under}
 use borrow.Author.Tests.{lt-ltb, le-ltb}
-use Rattle.asking.specs.Turns.{turns-in}
+use Rattle.asking.specs.Turns.{turns-by-times}
 use Rattle.asking.proofs.TurnsByDivision.{until-below}
 use Rattle.asking.proofs.turns_of.Statement.{statement}
 use Rattle.asking.proofs.turns_of.Tie as tie
@@ -23,7 +23,7 @@ add-needed c =
     omega arith
 
 returns : tie.Need-returns
-unfolding turns-in
+unfolding turns-by-times
 returns c =
     let after-until = c .before in
     rw (← after-until .until-turn .ensures, le-ltb (after-until .until-turn .result) (after-until .before .args .rounds) (omega arith))
@@ -34,20 +34,20 @@ cast-result c = search needs
 div-result : tie.Need-div-result
 div-result c = search needs
 
-quotient-below : (n d : ℕ) → n < 2 ^ 32 → n / d + 1 < 2 ^ 33
-quotient-below n d below = omega (arith, div-le-self n d)
+quotient-and-1-below : (n d : ℕ) → n < 2 ^ 32 → n / d + 1 < 2 ^ 33
+quotient-and-1-below n d below = omega (arith, div-le-self n d)
 
 add-result : tie.Need-add-result
-add-result c = fits-under w64 _ _ (quotient-below _ _ (omega arith)) tt
+add-result c = fits-under w64 _ _ (quotient-and-1-below _ _ (omega arith)) tt
 
 returns-2 : tie.Need-returns-2
-unfolding turns-in
+unfolding turns-by-times
 returns-2 c =
     let after-until = c .before .before in
-    let all = after-until .before .args .rounds in
+    let asked = after-until .before .args .rounds in
     let until = after-until .until-turn .result in
-    let same : all - (until + 1) ≡ all - 1 - until = omega arith in
-    rw (← after-until .until-turn .ensures, lt-ltb until all (omega arith), same)
+    let same : asked - (until + 1) ≡ asked - 1 - until = omega arith in
+    rw (← after-until .until-turn .ensures, lt-ltb until asked (omega arith), same)
 
 pub turns-of-spec : {M : Type 1} → statement M
 turns-of-spec =
