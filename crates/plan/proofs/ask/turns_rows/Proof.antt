@@ -35,9 +35,7 @@ times-of-requires c κs =
     (found-legal _ _ number _ (sym (after-find .find-line .ensures) ∙ c .enum-told .given .1), omega arith)
 
 turns-of-requires : tie.Need-turns-of-requires
-turns-of-requires c κs =
-    let start = c .before .before .before .before .before in
-    omega (arith, c .times-of .ensures .0, period-positive (start .args .rows .now) (start .args .line))
+turns-of-requires c κs = rw (c .times-of .ensures .0) (period-positive _ _)
 
 returns-3 : tie.Need-returns-3
 unfolding turns-answer
