@@ -28,9 +28,6 @@ module _ (q u : ℕ) (below : u < q) where
       let parts : n + c ≡ n % q + c + q * (n / q) = omega (arith, mod-add-div n q) in
       ap (λ (m : ℕ). m / q) parts ∙ add-mul-div-left (n % q + c) (n / q) period-positive
 
-  quotient-0 : (n : ℕ) → n < q → n / q ≡ 0
-  quotient-0 n less = div-eq-of-lt less
-
   quotient-1 : (n : ℕ) → q ≤ n → n < 2 * q → n / q ≡ 1
   quotient-1 n low high = div-eq-of-lt-le q (omega arith) (omega arith)
 
@@ -42,8 +39,8 @@ module _ (q u : ℕ) (below : u < q) where
       let so-far = div-of-sum n (q - 1 - u) in
       elim (decLt (n % q) u) [
         | yes earlier ↦
-            let a = quotient-0 (n % q + (q - u)) (omega arith) in
-            let b = quotient-0 (n % q + (q - 1 - u)) (omega arith) in
+            let a : (n % q + (q - u)) / q ≡ 0 = div-eq-of-lt (omega arith) in
+            let b : (n % q + (q - 1 - u)) / q ≡ 0 = div-eq-of-lt (omega arith) in
             rw (ne-eqb (n % q) u (λ e. omega arith)) (omega arith)
         | no e ↦ elim (decLt u (n % q)) [
           | yes later ↦
@@ -52,14 +49,14 @@ module _ (q u : ℕ) (below : u < q) where
               rw (ne-eqb (n % q) u (λ e. omega arith)) (omega arith)
           | no l ↦
               let a = quotient-1 (n % q + (q - u)) (omega arith) (omega arith) in
-              let b = quotient-0 (n % q + (q - 1 - u)) (omega arith) in
+              let b : (n % q + (q - 1 - u)) / q ≡ 0 = div-eq-of-lt (omega arith) in
               rw (eq-eqb (n % q) u (omega arith)) (omega arith)
         ]
       ]
 
   count-by-quotient : (N : ℕ) → count-below N (λ i. eqb (i % q) u) ≡ (N + (q - 1 - u)) / q
   unfolding count-below total-below
-  count-by-quotient zero = sym (quotient-0 (0 + (q - 1 - u)) (omega arith))
+  count-by-quotient zero = sym (div-eq-of-lt (omega arith))
   count-by-quotient (suc N) =
       let after : N + (q - u) ≡ suc N + (q - 1 - u) = omega arith in
       rw (count-by-quotient N, ← after) (sym (one-round N))
@@ -71,7 +68,7 @@ module _ (q u : ℕ) (below : u < q) where
         | yes reached ↦
             let parts : N + (q - 1 - u) ≡ N - 1 - u + q = omega arith in
             rw (lt-ltb u N reached, parts) (add-div-right (N - 1 - u) period-positive)
-        | no short ↦ rw (le-ltb u N (omega arith)) (quotient-0 (N + (q - 1 - u)) (omega arith))
+        | no short ↦ rw (le-ltb u N (omega arith)) (div-eq-of-lt (omega arith))
       ]
 
 -- The rounds from a on that fit a line of period q and start u

@@ -15,14 +15,14 @@ use Rattle.tree.proofs.Digits.{digit}
 use Rattle.tree.proofs.Proper.{Proper}
 use Rattle.tree.proofs.Standing.{start-below-period, stands-once}
 
--- line L stands where round n leads
-pub record Owns (L n : ℕ) (t : Tree) : Type 0 where
+-- line L stands in the tree with a period and a start that round n fits
+pub record RoundFitsLine (L n : ℕ) (t : Tree) : Type 0 where
   pub period : ℕ
   pub start : ℕ
   pub stands : Stands L t period start
   pub fits : n % period ≡ start
 
-pub walk-owns : (L n : ℕ) (t : Tree) → Proper t → owner n t ≡ some L → Owns L n t
+pub walk-owns : (L n : ℕ) (t : Tree) → Proper t → owner n t ≡ some L → RoundFitsLine L n t
 unfolding owner Proper Stands
 walk-owns L n nothing proper h = absurd (Option·none-ne-some L h)
 walk-owns L n (line k) proper h = record { period = 1; start = 0; stands = ((cc), refl, refl); fits = mod-one n }
@@ -57,11 +57,11 @@ stands-walk L n (node w f) q u h fits =
     rw (digits .0) (stands-walk L (n / w) (f (h .edge)) (h .period) (h .start) (h .stands) (digits .1))
 
 -- for every whole number n
-pub owner-exactly : (L n : ℕ) (t : Tree) → Proper t → (owner n t ≡ some L) ↔ Owns L n t
+pub owner-exactly : (L n : ℕ) (t : Tree) → Proper t → (owner n t ≡ some L) ↔ RoundFitsLine L n t
 owner-exactly L n t proper =
     (walk-owns L n t proper, λ h. stands-walk L n t (h .period) (h .start) (h .stands) (h .fits))
 
-pub no-two-owners : (L M n : ℕ) (t : Tree) → Owns L n t → Owns M n t → L ≡ M
+pub no-two-owners : (L M n : ℕ) (t : Tree) → RoundFitsLine L n t → RoundFitsLine M n t → L ≡ M
 no-two-owners L M n t a b =
     let by-L = stands-walk L n t (a .period) (a .start) (a .stands) (a .fits) in
     let by-M = stands-walk M n t (b .period) (b .start) (b .stands) (b .fits) in
