@@ -2,6 +2,7 @@
 pub mod EdgeTaken
 pub mod PathEnd
 pub mod Walking
+pub mod Visiting
 -- The path as 11 rows
 pub mod ElevenRows
 -- Turns

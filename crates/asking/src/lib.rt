@@ -1,14 +1,16 @@
 // Asking the plan: what owner, show and turns read from the lent array of a plan record.
 ghost use mathlib.Core.Path.{_≡_};
 ghost use mathlib.Core.Bool.{true};
-ghost use Prim.Native.Nat.{suc, _<_};
+ghost use Prim.Native.Nat.{suc, _/_, _<_};
 ghost use lib.Dec.{eqb};
 ghost use lib.ListN.{length};
 ghost use Rattle.tree.specs.Tree.{product, sum};
 ghost use Rattle.tree.specs.Asking.{rows-11};
 ghost use Rattle.tree.specs.Record.{path-at, legal};
+ghost use Rattle.bridge.specs.Rows.{tree-of};
 ghost use Rattle.paths.specs.Rules.{line-under, walk-on-paths, owner-on-paths};
 ghost use Rattle.asking.specs.Answers.{line-through, takes-edge, first-open, owner-answered};
+ghost use Rattle.asking.specs.Visits.{Visits};
 ghost use Rattle.asking.specs.Turns.{until-turn, turns-by-times};
 use tree::Period;
 use tree::Row;
@@ -83,35 +85,38 @@ fn ends_below(rows: &[u16; 1408], line: usize, level: usize) -> bool
     paths::weight(rows, line, level + 1) == 0
 }
 
-// The walk for a round, from the node at a level of a line's path to the child that the round selects, through at most `left` nodes.
-fn walk(rows: &[u16; 1408], line: usize, level: usize, left: usize, round: u64) -> Owner
-    requires { ⌜ (line < 64) × (level < length (path-at (now rows) line)) ⌝ }
-    ensures { λ r. ⌜ owner-answered r ≡ walk-on-paths (path-at (now (rows .entry))) left line level round ⌝ }
+// The walk for a round, from a node at a level of a line's path to the child that the round selects, through at most `left`
+// nodes. It carries the step of the node that it visits.
+fn walk(rows: &[u16; 1408], line: usize, level: usize, left: usize, step: u64, round: u64) -> Owner
+    requires { ⌜ (legal (now rows) ≡ true) × (line < 64) × Visits (tree-of (now rows)) line level step round ⌝ }
+    ensures { λ r. ⌜ owner-answered r ≡ walk-on-paths (path-at (now (rows .entry))) left line level (round / step) ⌝ }
 {
     if left == 0 {
         return Owner::Idle;
     }
     let w = paths::weight(rows, line, level) as u64;
-    let edge = (round % w) as u16;
-    let under = line_under(rows, line, level, edge);
+    let quotient = round / step;
+    let edge = quotient % w;
+    let under = line_under(rows, line, level, edge as u16);
     let Through::Line(next) = under else {
         return Owner::Idle;
     };
     if ends_below(rows, next, level) {
         return Owner::Line(next);
     }
-    walk(rows, next, level + 1, left - 1, round / w)
+    walk(rows, next, level + 1, left - 1, step * w, round)
 }
 
-// The owner of a round: the walk goes down from the root. An empty plan is idle.
+// The owner of a round: the walk goes down from the root, whose step is 1. An empty plan is idle.
 pub fn owner_of(rows: &[u16; 1408], round: u64) -> Owner
+    requires { ⌜ legal (now rows) ≡ true ⌝ }
     ensures { λ r. ⌜ owner-answered r ≡ owner-on-paths (path-at (now (rows .entry))) round ⌝ }
 {
     let open = first_open(rows);
     let Through::Line(line) = open else {
         return Owner::Idle;
     };
-    walk(rows, line, 0, 11, round)
+    walk(rows, line, 0, 11, 1, round)
 }
 
 // The period and the start of an open line. Of a closed line they are 1 and 0.

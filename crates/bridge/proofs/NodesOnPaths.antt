@@ -104,7 +104,7 @@ way-length (suc l) r nothing here = absurd (false≢true here)
 way-length (suc l) r (line n) here = absurd (false≢true here)
 way-length (suc l) r (node w f) here = ap suc (way-length l (r / w) (f (r % w)) here)
 
-way-sum : (l r : ℕ) (t : Tree) → present (at-digits l r t) ≡ true → sum (way-by-digits l r t) ≡ r
+pub way-sum : (l r : ℕ) (t : Tree) → present (at-digits l r t) ≡ true → sum (way-by-digits l r t) ≡ r
 unfolding at-digits way-by-digits present sum sum-from
 way-sum zero zero t here = refl
 way-sum zero (suc r) t here = absurd (false≢true here)
@@ -233,25 +233,29 @@ same-node-exactly M N t l rs qs h k long = (
 -- The lines through the node at level l of line M's path are those whose paths have the same node there
 
 module _ (M : ℕ) (t : Tree) (l : ℕ) (rs : List Row) (h : path M t ≡ some rs) (long : l < length rs) where
-  pub same-node-through :
-      (N : ℕ) (qs : List Row) → N < 64 → path N t ≡ some qs → same-node l rs qs ≡ true →
-      LineThrough t (place-on l rs) (row-of l rs .weight) (row-of l qs .edge)
-  same-node-through N qs below k same =
+  pub same-node-weight : (N : ℕ) (qs : List Row) → path N t ≡ some qs → same-node l rs qs ≡ true → row-of l qs .weight ≡ row-of l rs .weight
+  same-node-weight N qs k same =
       let both = same-node-exactly M N t l rs qs h k long .0 same in
       let x = path-node M t l rs h long in
       let y = path-node N t l qs k (both .1) in
       let one-node =
       sym (y .node-is) ∙ ap (λ (above : List Row). at (record { level = l; offset = sum above }) t) (both .0) ∙ x .node-is in
-      let one-weight : row-of l qs .weight ≡ row-of l rs .weight = cc in
+      cc
+
+  pub same-node-through :
+      (N : ℕ) (qs : List Row) → N < 64 → path N t ≡ some qs → same-node l rs qs ≡ true →
+      LineThrough t (place-on l rs) (row-of l rs .weight) (row-of l qs .edge)
+  same-node-through N qs below k same =
+      let both = same-node-exactly M N t l rs qs h k long .0 same in
       record {
         line = N;
         rows = qs;
         line-below = below;
         path-is = k;
         level-below = both .1;
-        rows-above = both .0 ∙ sym (x .way-is);
+        rows-above = both .0 ∙ sym (path-node M t l rs h long .way-is);
         offset-is = ap sum (both .0);
-        row-is = λ i. row (one-weight i) (row-of l qs .edge);
+        row-is = λ i. row (same-node-weight N qs k same i) (row-of l qs .edge);
       }
 
   pub through-same-node : (w e : ℕ) (x : LineThrough t (place-on l rs) w e) → same-node l rs (x .rows) ≡ true

@@ -1,19 +1,19 @@
--- How large a legal tree can be: at most 11 nodes above a line, and at most 704 nodes in all.
+-- How large a legal tree can be: at most 11 nodes above a line, a step of at most 2,047, and at most 704 nodes in all.
 -- Assumes nothing.
-use Prim.Native.Nat.{ℕ, _+_, _*_, _^_, _<_, _≤_}
+use Prim.Native.Nat.{ℕ, zero, suc, _+_, _*_, _/_, _%_, _^_, _<_, _≤_}
 use native.Mathlib.Omega.{arith}
-use native.Mathlib.Nat.{pow-succ', mul-assoc, mul-one, mul-le-mul-left, mul-le-mul-right}
+use native.Mathlib.Nat.{pow-succ', mod-one, mul-assoc, mul-one, one-mul, mul-le-mul-left, mul-le-mul-right, le-mul-of-pos-right}
 use native.Mathlib.Decide.{decLt}
-use mathlib.Core.Path.{_≡_, refl, _∙_, ap}
+use mathlib.Core.Path.{_≡_, refl, _∙_, ap, subst}
 use mathlib.Core.Logic.{_⊎_, inl, inr}
-use mathlib.Core.Bool.{true}
+use mathlib.Core.Bool.{true, false≢true}
 use mathlib.Core.List.{List, [], _∷_}
 use mathlib.Core.Option.{none, some, Option·getD, Option·none-ne-some}
 use lib.ListN.{length}
 use lib.Pow.{pow-mono}
 use Rattle.tree.specs.declared.Row.{Row}
 use Rattle.tree.specs.Search.{found, total-below}
-use Rattle.tree.specs.Tree.{Tree, nothing, line, node, present, row, path, is-open, path-of, period-of, start-of, nodes}
+use Rattle.tree.specs.Tree.{Tree, nothing, line, node, present, row, product, path, is-open, path-of, period-of, start-of, Place, at-digits, at, way-by-digits, way, step, nodes}
 use Rattle.tree.specs.Standing.{Stands}
 use Rattle.tree.specs.Opening.{put, one-edge}
 use Rattle.tree.specs.Shape.{Edges, LegalUnder, Alone, Legal}
@@ -58,6 +58,59 @@ at-most-11-above (node w f) L rs (inl legal) h =
       | yes less ↦ omega arith
       | no more ↦ absurd (omega (arith, rows-fit 1 (node w f) L rs legal h, pow-mono {i = 12} {j = length rs} (omega arith)))
     ]
+
+-- The step of a node
+
+-- a line stands under whatever is present, and its period is a multiple of the weights' product so far
+product-fits : (m : ℕ) (t : Tree) → LegalUnder m t → present t ≡ true → m ≤ 4095
+unfolding LegalUnder present
+product-fits m nothing legal here = absurd (false≢true here)
+product-fits m (line n) legal here = legal .1
+product-fits m (node w f) legal here =
+    let e = some-below-true w _ (legal .1 .not-empty) in
+    let two = legal .0 in
+    let below = product-fits (m * w) (f (e .0)) (legal .2 (e .0)) (e .2) in
+    let most : m ≤ m * w = le-mul-of-pos-right m (omega arith) in
+    omega arith
+
+-- a node's own weight, at least 2, belongs to such a product too
+step-fits : (m l r : ℕ) (t : Tree) (w : ℕ) (f : ℕ → Tree) → LegalUnder m t → at-digits l r t ≡ node w f → m * product (way-by-digits l r t) ≤ 2047
+unfolding LegalUnder at-digits way-by-digits product present
+step-fits m zero zero t w f legal is =
+    let under = subst (LegalUnder m) is legal in
+    let e = some-below-true w _ (under .1 .not-empty) in
+    let below = product-fits (m * w) (f (e .0)) (under .2 (e .0)) (e .2) in
+    omega (arith, mul-one m, mul-le-mul-left m (under .0))
+step-fits m zero (suc r) t w f legal is = absurd (false≢true (ap present is))
+step-fits m (suc l) r nothing w f legal is = absurd (false≢true (ap present is))
+step-fits m (suc l) r (line n) w f legal is = absurd (false≢true (ap present is))
+step-fits m (suc l) r (node v g) w f legal is =
+    rw (← mul-assoc) (step-fits (m * v) l (r / v) (g (r % v)) w f (legal .2 (r % v)) is)
+
+-- no way goes down where no node stands
+way-in-nothing : (l r : ℕ) → product (way-by-digits l r nothing) ≡ 1
+unfolding way-by-digits product
+way-in-nothing zero r = refl
+way-in-nothing (suc l) r = refl
+
+way-in-line : (l r n : ℕ) → product (way-by-digits l r (line n)) ≡ 1
+unfolding way-by-digits product
+way-in-line zero r n = refl
+way-in-line (suc l) r n = refl
+
+way-in-alone : (l r : ℕ) (t : Tree) → Alone t → product (way-by-digits l r t) ≡ 1
+unfolding way-by-digits product one-edge
+way-in-alone zero r t alone = refl
+way-in-alone (suc l) r t alone =
+    rw (alone .tree, mod-one r, put-same 0 0 (line (alone .number)) (λ e. nothing) refl, one-mul) (way-in-line l (r / 1) (alone .number))
+
+-- the step of every node is at most 2047
+pub step-at-most-2047 : (t : Tree) (a : Place) (w : ℕ) (f : ℕ → Tree) → Legal t → at a t ≡ node w f → step a t ≤ 2047
+unfolding Legal at way step
+step-at-most-2047 nothing a w f legal is = omega (arith, way-in-nothing (a .level) (a .offset))
+step-at-most-2047 (line n) a w f legal is = absurd legal
+step-at-most-2047 (node v g) a w f (inl legal) is = rw one-mul at (step-fits 1 (a .level) (a .offset) (node v g) w f legal is)
+step-at-most-2047 (node v g) a w f (inr alone) is = omega (arith, way-in-alone (a .level) (a .offset) (node v g) alone)
 
 -- The nodes of a tree
 

@@ -12,11 +12,11 @@ use Rattle.tree.specs.Asking.{owner, rows-11, shown, is-line, owns, turn
 use Rattle.tree.specs.Refusals.{first-refusal, line-above-63, period-out-of-range, no-room, earlier-checks, open-refusal, line-refusal}
 use Rattle.tree.specs.Calls.{refusal, reply, carried-out, answer-unless, tree-unless, answer, after, gives-unless, show-outcome, turns-outcome}
 use Rattle.tree.specs.Record.{row-at, path-from, path-at, rows-in-range, alone, path-in-range, unused, rest-unused, parts, no-rows, together, legal, stand, grown, treeOf, numbers, numbers-below, recordOf}
-use Rattle.tree.specs.Cases.{answered, next, replayed, left-by, shows, cases, bookings-A, questions-A, case-A, case-B, case-C, case-D, case-E, case-F, case-G, case-H, case-I, split-keeps-starts, emptied-is-fresh, checks-in-sequence, turns-from-a-round}
+use Rattle.tree.specs.Cases.{answered, next, replayed, left-by, shows, cases, bookings-A, questions-A, case-A, case-B, case-C, case-D, case-E, case-F, case-G, case-H, case-I, split-keeps-starts, emptied-is-fresh, checks-in-sequence, turns-from-a-round, step-2047}
 
 -- what there is to compute with: to unfold this is to unfold each definition that the line names
 computation : Unit {0}
-unfolding divides euclid gcd found or-else first smallest some-below present product sum-from sum path is-open path-of period-of start-of at-digits at way-by-digits way step divisor free free-class candidate before better best-below under best chosen put one-edge group split newcomer booking book-by-digits class-at book-into opened start-in start-given prune closed owner rows-11 shown is-line owns turns first-refusal line-above-63 period-out-of-range no-room earlier-checks open-refusal line-refusal refusal reply carried-out answer-unless tree-unless answer after gives-unless show-outcome turns-outcome answered next replayed shows cases bookings-A questions-A case-A case-B case-C case-D case-E case-F case-G case-H case-I split-keeps-starts emptied-is-fresh checks-in-sequence turns-from-a-round all-below total-below count-below left-by row-at path-from path-at rows-in-range alone path-in-range unused rest-unused parts no-rows together legal stand grown treeOf numbers numbers-below recordOf
+unfolding divides euclid gcd found or-else first smallest some-below present product sum-from sum path is-open path-of period-of start-of at-digits at way-by-digits way step divisor free free-class candidate before better best-below under best chosen put one-edge group split newcomer booking book-by-digits class-at book-into opened start-in start-given prune closed owner rows-11 shown is-line owns turns first-refusal line-above-63 period-out-of-range no-room earlier-checks open-refusal line-refusal refusal reply carried-out answer-unless tree-unless answer after gives-unless show-outcome turns-outcome answered next replayed shows cases bookings-A questions-A case-A case-B case-C case-D case-E case-F case-G case-H case-I split-keeps-starts emptied-is-fresh checks-in-sequence turns-from-a-round step-2047 all-below total-below count-below left-by row-at path-from path-at rows-in-range alone path-in-range unused rest-unused parts no-rows together legal stand grown treeOf numbers numbers-below recordOf
 computation = tt
 
 -- every case, replayed from the empty plan, gives the answers that the table has
@@ -33,3 +33,8 @@ record-of-A = refl
 pub damaged-record-of-A : treeOf (record { rows = set (recordOf (left-by nothing bookings-A) .rows) 23 2 }) ≡ nothing
 unfolding computation
 damaged-record-of-A = refl
+
+-- no number below 2,047 bounds the steps of all nodes
+pub step-2047-reached : step (record { level = 1; offset = 0 }) (left-by nothing step-2047) ≡ 2047
+unfolding computation
+step-2047-reached = refl

@@ -1,4 +1,4 @@
--- The joint table: document 01's marked cases A to I, without the printing, as calls with the answers that it marks; then four cases of our own.
+-- The joint table: document 01's marked cases A to I, without the printing, as calls with the answers that it marks; then five cases of our own.
 -- Each case begins at the empty plan. The one proof over the whole table is in proofs/JointTable.antt.
 -- Assumes nothing.
 use Prim.Native.Nat.{ℕ}
@@ -173,6 +173,18 @@ turns-from-a-round =
     ∷ turns-of 2 18446744073709551615 11 (gives 2)
     ∷ [])
 
+-- ours: the largest step that a node can have, 2,047, above a weight of 2. The walk leaves that node by either edge.
+unfoldable pub step-2047 : List Step
+step-2047 =
+    opens 1 4094 (booked 0)
+    ∷ opens 2 2047 (booked 1)
+    ∷ show 1 (shows 4094 0 (row 2047 0 ∷ row 2 0 ∷ []))
+    ∷ owner-of 0 (some 1)
+    ∷ owner-of 2047 none
+    ∷ owner-of 2048 (some 2)
+    ∷ owner-of 4094 (some 1)
+    ∷ []
+
 unfoldable pub cases : List (List Step)
 cases =
     case-A
@@ -188,4 +200,5 @@ cases =
     ∷ emptied-is-fresh
     ∷ checks-in-sequence
     ∷ turns-from-a-round
+    ∷ step-2047
     ∷ []

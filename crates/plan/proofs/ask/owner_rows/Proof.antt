@@ -17,7 +17,7 @@ unfolding owner-answer
 returns c = sym (owner-on-illegal _ (sym (c .before .legal .ensures) ∙ not-true _ (c .if1 .taken)) _)
 
 owner-of-requires : tie.Need-owner-of-requires
-owner-of-requires c κs = search needs
+owner-of-requires c κs = sym (c .before .legal .ensures) ∙ not-false _ (c .if1 .left)
 
 enum-known-found : tie.Need-enum-known-found
 enum-known-found c = search needs
