@@ -9,7 +9,7 @@ use mathlib.Core.List.{List}
 use mathlib.Core.Option.{Option, none, some}
 use lib.Dec.{eqb}
 use lib.ListN.{length}
-use borrow.Author.Tests.{eqb-false, not-true}
+use borrow.Author.Tests.{eqb-true, eqb-false, not-true}
 use Rattle.tree.specs.declared.Row.{Row}
 use Rattle.tree.specs.Record.{row-at, path-at}
 use Rattle.paths.specs.Rules.{Family, row-of, same-node, line-under, walk-on-paths, owner-on-paths}
@@ -21,12 +21,17 @@ use Rattle.asking.specs.Answers.{first-open}
 
 -- line N was found under edge e of the node at level l of path ps
 module _ (family : Family) (ps : List Row) (l e N : ℕ) (under : line-under family ps l e ≡ some N) where
-  -- it is one of the 64, and its path goes through the node
+  -- its path goes through the node and takes that edge
+  pub line-under-takes : (same-node l ps (family N) ≡ true) × (row-of l (family N) .edge ≡ e)
+  unfolding line-under
+  line-under-takes =
+      let both = and-eq-true-iff (same-node l ps (family N)) (eqb (row-of l (family N) .edge) e) .0 (smallest-some 64 _ N under .passes) in
+      (both .0, eqb-true (row-of l (family N) .edge) e (both .1))
+
+  -- it is one of the 64
   pub line-under-within : (N < 64) × (l < length (family N))
   unfolding line-under
-  line-under-within =
-      let found = smallest-some 64 _ N under in
-      (found .in-range, same-node-goes-on l ps (family N) (and-eq-true-iff (same-node l ps (family N)) (eqb (row-of l (family N) .edge) e) .0 (found .passes) .0) .1)
+  line-under-within = (smallest-some 64 _ N under .in-range, same-node-goes-on l ps (family N) (line-under-takes .0) .1)
 
   -- where the path does not end there, it goes through the next node too
   pub through-next : eqb (length (family N)) (suc l) ≡ false → l + 1 < length (family N)

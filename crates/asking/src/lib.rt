@@ -88,7 +88,7 @@ fn ends_below(rows: &[u16; 1408], line: usize, level: usize) -> bool
 // The walk for a round, from a node at a level of a line's path to the child that the round selects, through at most `left`
 // nodes. It carries the step of the node that it visits.
 fn walk(rows: &[u16; 1408], line: usize, level: usize, left: usize, step: u64, round: u64) -> Owner
-    requires { ⌜ (legal (now rows) ≡ true) × (line < 64) × Visits (tree-of (now rows)) line level step round ⌝ }
+    requires { ⌜ Visits (tree-of (now rows)) line level step round ⌝ }
     ensures { λ r. ⌜ owner-answered r ≡ walk-on-paths (path-at (now (rows .entry))) left line level (round / step) ⌝ }
 {
     if left == 0 {

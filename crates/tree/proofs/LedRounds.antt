@@ -14,7 +14,7 @@ use Rattle.tree.specs.Asking.{owner, walked, TakesEdge, LeadsTo}
 use Rattle.tree.proofs.Digits.{digit, digits-below, digits-of}
 use Rattle.tree.proofs.Proper.{Proper, legal-proper}
 
-offset-below-step : (l r : ℕ) (t : Tree) → Proper t → present (at-digits l r t) ≡ true → r < product (way-by-digits l r t)
+pub offset-below-step : (l r : ℕ) (t : Tree) → Proper t → present (at-digits l r t) ≡ true → r < product (way-by-digits l r t)
 unfolding Proper at-digits way-by-digits product present
 offset-below-step zero zero t proper here = omega arith
 offset-below-step zero (suc r) t proper here = absurd (false≢true here)

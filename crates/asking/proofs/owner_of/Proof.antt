@@ -32,7 +32,7 @@ walk-requires : tie.Need-walk-requires
 walk-requires c κs =
     let is-legal = c .before .before .before .before .pre in
     let within = first-open-within _ _ (open-line (c .before)) in
-    (is-legal, within .0, visits-root _ is-legal _ (within .0) _ (within .1))
+    visits-root _ is-legal _ (within .0) _ (within .1)
 
 returns-2 : tie.Need-returns-2
 returns-2 c = c .walk .ensures ∙ rw div-one (sym (owner-by-walk _ _ _ (open-line (c .before .before))))
