@@ -19,6 +19,21 @@ pub fn plan_of(lines: u64) -> Record {
     rows
 }
 
+/// Case F: line k has the period 2, 4, 8 .. The last one, of period 2,048, has 11 nodes above it.
+pub fn plan_of_powers() -> Record {
+    let mut rows = [0; RECORD];
+    for line in 0..11 {
+        let answer = plain::open(&mut rows, line, 2 << line);
+        assert!(0 <= answer, "line {line} is booked");
+    }
+    rows
+}
+
+/// Rounds that the last line of case F owns: 1,023 is its start.
+pub fn rounds_under_11_nodes(count: usize) -> Vec<u64> {
+    (0..count as u64).map(|at| 1_023 + 2_048 * at).collect()
+}
+
 /// As many rounds of each kind, owned and idle, in turn.
 pub fn rounds_for(rows: &Record, each: usize) -> Vec<u64> {
     let is_owned = |round: &u64| plain::owner(rows, *round) < 64;

@@ -1,6 +1,6 @@
 //! The table: nanoseconds of the library and of plain Rust, which take turns, the best of many repetitions for each.
 
-use crate::inputs::{list_of, plan_of, rounds_for, ORDERS};
+use crate::inputs::{list_of, plan_of, plan_of_powers, rounds_for, rounds_under_11_nodes, ORDERS};
 use crate::programs::programs;
 use crate::{Calls, Record, LIBRARY, PLAIN, RECORD};
 use std::hint::black_box;
@@ -20,15 +20,24 @@ const PROGRAM_REPETITIONS: usize = 40;
 /// What is measured once: a number of calls.
 type Task = Box<dyn FnMut()>;
 
-/// Owners of as many owned as idle rounds, in a plan of so many lines.
-fn owners(calls: Calls, lines: usize) -> Task {
-    let rows = plan_of(lines as u64);
-    let rounds = rounds_for(&rows, TOGETHER / 2);
+fn owners_of(calls: Calls, rows: Record, rounds: Vec<u64>) -> Task {
     Box::new(move || {
         for &round in &rounds {
             black_box((calls.owner)(black_box(&rows), black_box(round)));
         }
     })
+}
+
+/// Owners of as many owned as idle rounds, in a plan of so many lines.
+fn owners(calls: Calls, lines: usize) -> Task {
+    let rows = plan_of(lines as u64);
+    let rounds = rounds_for(&rows, TOGETHER / 2);
+    owners_of(calls, rows, rounds)
+}
+
+/// Owners of rounds of the line that has 11 nodes above it, in case F's plan.
+fn owners_under_11_nodes(calls: Calls, _: usize) -> Task {
+    owners_of(calls, plan_of_powers(), rounds_under_11_nodes(TOGETHER))
 }
 
 fn open_and_close(calls: Calls, rows: &mut Record, line: u64) {
@@ -56,29 +65,41 @@ fn list(calls: Calls, lines: usize) -> Task {
     })
 }
 
-/// A row of the table: its name, how many calls a task makes, how often the task is repeated, and the task.
+/// A row of the table: its name, for how many lines it is measured, how many calls a task makes, how often the task is
+/// repeated, and the task.
 struct Measured {
     name: &'static str,
+    lines: &'static [usize],
     calls: usize,
     repetitions: usize,
     task: fn(Calls, usize) -> Task,
 }
 
-const MEASURED: [Measured; 3] = [
+const MEASURED: [Measured; 4] = [
     Measured {
         name: "owner",
+        lines: &LINES,
         calls: TOGETHER,
         repetitions: 300,
         task: owners,
     },
     Measured {
+        name: "owner, under 11 nodes",
+        lines: &[11],
+        calls: TOGETHER,
+        repetitions: 300,
+        task: owners_under_11_nodes,
+    },
+    Measured {
         name: "open with close",
+        lines: &LINES,
         calls: TOGETHER,
         repetitions: 300,
         task: changes,
     },
     Measured {
         name: "list, each order",
+        lines: &LINES,
         calls: ORDERS,
         repetitions: 60,
         task: list,
@@ -108,7 +129,7 @@ pub fn measure(folder: &Path) {
     println!("| calls | lines | library, ns | plain Rust, ns | ratio |");
     println!("|---|---|---|---|---|");
     for measured in MEASURED {
-        for lines in LINES {
+        for &lines in measured.lines {
             let tasks = [LIBRARY, PLAIN].map(|calls| (measured.task)(calls, lines));
             let best = best_of(measured.repetitions, tasks);
             let each = best.map(|total| total / measured.calls as f64);
@@ -129,7 +150,8 @@ pub fn profile(mut words: impl Iterator<Item = String>) {
         _ => PLAIN,
     };
     let mut number = || words.next().and_then(|word| word.parse().ok());
-    let row: usize = number().expect("a row: 0 owner, 1 open with close, 2 list");
+    let row: usize =
+        number().expect("a row: 0 owner, 1 owner under 11 nodes, 2 open with close, 3 list");
     let lines: usize = number().expect("a number of lines");
     let times: usize = number().expect("a number of tasks");
     let mut task = (MEASURED[row].task)(calls, lines);

@@ -3,8 +3,8 @@
 //! Ask 1); and of lines that are refused.
 
 use crate::ask::{show, Shown};
-use crate::record::{Held, RECORD_NUMBERS};
-use crate::script::{change, opens_in_turn, Step};
+use crate::record::RECORD_NUMBERS;
+use crate::script::{change, opened_in_turn, Step};
 use crate::tree::{Plan, LAST_LINE};
 use std::collections::BTreeSet;
 
@@ -37,9 +37,7 @@ pub fn border_turns() -> Vec<Step> {
 /// The turns of the plan as opened, then those of the other tree, then these once more of the
 /// record that is no tree.
 fn asked_thrice(periods: &[u64], other_tree: Step, no_tree: Step) -> Vec<Step> {
-    let mut held = Held::empty();
-    let mut steps = [vec![Step::Begin], opens_in_turn(periods)].concat();
-    steps.iter().for_each(|&step| change(&mut held, step));
+    let (mut steps, mut held) = opened_in_turn(periods);
     steps.extend(turns_in(&held.plan));
     change(&mut held, other_tree);
     let in_other_tree = turns_in(&held.plan);
@@ -106,6 +104,8 @@ fn first_rounds(shown: &Shown) -> BTreeSet<u64> {
 mod tests {
     use super::*;
     use crate::ask::owner;
+    use crate::record::Held;
+    use crate::script::opens_in_turn;
     use crate::script::tests::answers;
 
     /// Each write does what its plan says.

@@ -8,6 +8,7 @@
 
 pub mod ask;
 pub mod book;
+pub mod border_owners;
 pub mod border_turns;
 pub mod head;
 pub mod list_cases;

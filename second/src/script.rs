@@ -19,6 +19,7 @@
 //! none, which counts as the empty plan: `record.rs` says which.
 
 use crate::ask::{owner, show, turns, Shown};
+use crate::border_owners::border_owners;
 use crate::border_turns::border_turns;
 use crate::head::{self, HEAD_BYTES};
 use crate::lists;
@@ -85,12 +86,13 @@ impl Step {
     }
 }
 
-/// The marked cases, then walks at the borders of a place's numbers, then turns at those of
-/// a first round.
+/// The marked cases, then walks at the borders of a place's numbers, turns at those of a first
+/// round, and owners at those of a round.
 pub fn cases() -> Vec<Step> {
     let marked = marked_cases().into_iter();
     let begun = marked.flat_map(|case| [vec![Step::Begin], case].concat());
-    begun.chain(border_walks()).chain(border_turns()).collect()
+    let borders = [border_walks(), border_turns(), border_owners()];
+    begun.chain(borders.concat()).collect()
 }
 
 /// Opens the periods as lines 1, 2, 3 ..
@@ -99,6 +101,14 @@ pub(crate) fn opens_in_turn(periods: &[u64]) -> Vec<Step> {
         .zip(periods)
         .map(|(line, &period)| Step::Open(line, period))
         .collect()
+}
+
+/// A plan with these lines open: the steps that open them on an empty plan, and what they leave.
+pub(crate) fn opened_in_turn(periods: &[u64]) -> (Vec<Step>, Held) {
+    let mut held = Held::empty();
+    let steps = [vec![Step::Begin], opens_in_turn(periods)].concat();
+    steps.iter().for_each(|&step| change(&mut held, step));
+    (steps, held)
 }
 
 /// (Marked cases, A to I), the calls of each that change a plan; the lines are numbered

@@ -17,17 +17,18 @@ fn ends_below(path: &Path, level: usize) -> bool {
     path.get(level + 1).is_none_or(|row| row[0] == 0)
 }
 
-/// The walk goes down from the root, at each node to the edge that the round selects.
+/// The walk goes down from the root, at each node to the edge that the round selects by the node's step.
 fn owner_of(plan: &Plan, round: u64) -> Option<usize> {
     let mut line = (0..LINES).find(|&line| !is_closed(&plan[line]))?;
-    let mut rest = round;
+    let mut step = 1;
     for level in 0..ROWS {
         let weight = u64::from(plan[line][level][0]);
-        line = line_under(plan, &plan[line], level, (rest % weight) as u16)?;
+        let edge = round / step % weight;
+        line = line_under(plan, &plan[line], level, edge as u16)?;
         if ends_below(&plan[line], level) {
             return Some(line);
         }
-        rest /= weight;
+        step *= weight;
     }
     None
 }
