@@ -1,6 +1,6 @@
 //! Both give the same answers and leave the same records and bytes, on generated calls and lists.
 
-use crate::inputs::{list_of, ORDERS};
+use crate::inputs::{list_of, plan_of_powers, rounds_under_11_nodes, ORDERS};
 use crate::measure::LINES;
 use crate::numbers::Numbers;
 use crate::{plain, programs, Calls, Record, LIBRARY, PLAIN, RECORD, SEED};
@@ -9,6 +9,7 @@ use std::path::Path;
 const CALLS: usize = 100_000;
 const LISTS: usize = 10_000;
 const PROGRAM_RUNS: usize = 200;
+const OWNERS: usize = 100;
 
 /// What was seen in the generated calls.
 #[derive(Default)]
@@ -169,9 +170,19 @@ fn compare_programs(folder: &Path) {
     println!("`book` on {PROGRAM_RUNS} generated lists and lists of other lengths: equal bytes\n");
 }
 
+/// The rounds that are measured under 11 nodes: both give case F's last line.
+fn compare_under_11_nodes() {
+    let rows = plan_of_powers();
+    for round in rounds_under_11_nodes(OWNERS) {
+        let owners = [LIBRARY, PLAIN].map(|calls| (calls.owner)(&rows, round));
+        assert_eq!(owners, [10, 10], "round {round}");
+    }
+}
+
 /// Everything that the two are compared on.
 pub fn compare_answers(folder: &Path) {
     compare_calls();
+    compare_under_11_nodes();
     compare_lists();
     compare_programs(folder);
 }
