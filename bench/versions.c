@@ -1,5 +1,5 @@
-/* Two versions of the library, loaded side by side: the time of an owner call, and of the check of the record alone, which
-   is most of it. The versions take turns, and the best of the repetitions counts. */
+/* Two versions of the library, loaded side by side: the time of an owner call and, for comparison, of the check of the
+   record alone. The versions take turns, and the best of the repetitions counts. */
 #define _POSIX_C_SOURCE 200809L
 #include <dlfcn.h>
 #include <stdint.h>
@@ -15,9 +15,10 @@ typedef struct {
     int64_t (*is_tree)(const uint16_t *plan);
 } library;
 
-/* What is measured: a plan, and rounds asked of it. */
+/* What is measured: a plan, and rounds asked of it. `owner` is the line that owns them all, or less than 0. */
 typedef struct {
     const char *name;
+    int64_t owner;
     uint16_t plan[NUMBERS];
     uint64_t rounds[ROUNDS];
 } question;
@@ -50,7 +51,7 @@ static void book(const library *version, question *asked, uint64_t line, uint64_
 /* As in bench/src/inputs.rs: so many lines, and as many owned as idle rounds in turn. */
 static question of_lines(const library *version, const char *name, int lines) {
     static const uint16_t periods[] = {480, 360, 240, 720, 960, 1440, 600, 1200};
-    question asked = {.name = name};
+    question asked = {.name = name, .owner = -1};
     for (int line = 0; line < lines; line++) book(version, &asked, line, periods[line % 8]);
     int owned = 0, idle = 0;
     for (uint64_t round = 0; owned + idle < ROUNDS; round++) {
@@ -61,9 +62,9 @@ static question of_lines(const library *version, const char *name, int lines) {
     return asked;
 }
 
-/* Case F, and rounds of the line that has 11 nodes above it, from the first period with this number on. */
+/* Case F, and rounds of the line that has 11 nodes above it: `first` is the number of the first period asked. */
 static question under_11_nodes(const library *version, const char *name, uint64_t first) {
-    question asked = {.name = name};
+    question asked = {.name = name, .owner = 10};
     for (uint64_t line = 0; line < 11; line++) book(version, &asked, line, UINT64_C(2) << line);
     for (uint64_t at = 0; at < ROUNDS; at++) asked.rounds[at] = 1023 + 2048 * (first + at);
     return asked;
@@ -85,9 +86,12 @@ static double timed(const library *version, const question *asked, int owner) {
 }
 
 static void compare(const library versions[2], const question *asked) {
-    for (int at = 0; at < ROUNDS; at++)
-        if (versions[BEFORE].owner(asked->plan, asked->rounds[at]) != versions[AFTER].owner(asked->plan, asked->rounds[at]))
-            fail("the owners differ");
+    for (int at = 0; at < ROUNDS; at++) {
+        int64_t before = versions[BEFORE].owner(asked->plan, asked->rounds[at]);
+        int64_t after = versions[AFTER].owner(asked->plan, asked->rounds[at]);
+        if (before != after) fail("the owners differ");
+        if (0 <= asked->owner && before != asked->owner) fail("not the line that is to be measured");
+    }
 }
 
 static void measure(const library versions[2], const question *asked) {

@@ -1,7 +1,7 @@
 //! Both give the same answers and leave the same records and bytes, on generated calls and lists.
 
 use crate::inputs::{list_of, plan_of_powers, rounds_under_11_nodes, ORDERS};
-use crate::measure::LINES;
+use crate::measure::{LINES, TOGETHER};
 use crate::numbers::Numbers;
 use crate::{plain, programs, Calls, Record, LIBRARY, PLAIN, RECORD, SEED};
 use std::path::Path;
@@ -9,7 +9,6 @@ use std::path::Path;
 const CALLS: usize = 100_000;
 const LISTS: usize = 10_000;
 const PROGRAM_RUNS: usize = 200;
-const OWNERS: usize = 100;
 
 /// What was seen in the generated calls.
 #[derive(Default)]
@@ -173,7 +172,7 @@ fn compare_programs(folder: &Path) {
 /// The rounds that are measured under 11 nodes: both give case F's last line.
 fn compare_under_11_nodes() {
     let rows = plan_of_powers();
-    for round in rounds_under_11_nodes(OWNERS) {
+    for round in rounds_under_11_nodes(TOGETHER) {
         let owners = [LIBRARY, PLAIN].map(|calls| (calls.owner)(&rows, round));
         assert_eq!(owners, [10, 10], "round {round}");
     }

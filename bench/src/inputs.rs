@@ -19,7 +19,7 @@ pub fn plan_of(lines: u64) -> Record {
     rows
 }
 
-/// Case F: line k has the period 2, 4, 8 .. The last one, of period 2,048, has 11 nodes above it.
+/// Case F: the lines 0, 1, 2 .. have the periods 2, 4, 8 .. The last one, of period 2,048, has 11 nodes above it.
 pub fn plan_of_powers() -> Record {
     let mut rows = [0; RECORD];
     for line in 0..11 {

@@ -12,7 +12,7 @@ use std::time::Instant;
 pub const LINES: [usize; 3] = [1, 16, 64];
 
 /// How many calls are timed together, where one is short.
-const TOGETHER: usize = 100;
+pub const TOGETHER: usize = 100;
 
 /// How often each program is run.
 const PROGRAM_REPETITIONS: usize = 40;

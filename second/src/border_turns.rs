@@ -70,7 +70,7 @@ fn turns_of_open(line: u64, shown: &Shown) -> Vec<Step> {
     let period = u32::from(shown.period.0);
     let counts = BTreeSet::from([0, 1, period - 1, period, period + 1, u32::MAX]);
     let mut steps = Vec::new();
-    for first in first_rounds(shown) {
+    for first in border_rounds(shown) {
         steps.extend(counts.iter().map(|&rounds| Step::Turns {
             line,
             first,
@@ -81,7 +81,7 @@ fn turns_of_open(line: u64, shown: &Shown) -> Vec<Step> {
 }
 
 /// Each border, a round there that the line owns, and the rounds beside both.
-fn first_rounds(shown: &Shown) -> BTreeSet<u64> {
+pub(crate) fn border_rounds(shown: &Shown) -> BTreeSet<u64> {
     let (period, start) = (u64::from(shown.period.0), u64::from(shown.start.0));
     let last_owned = |border: u64| border - (border % period + period - start) % period;
     let (past_32_bits, most) = (1 << 32, u64::MAX);
@@ -124,13 +124,13 @@ mod tests {
     }
 
     #[test]
-    fn first_rounds_are_borders_and_owned_rounds() {
+    fn border_rounds_are_borders_and_owned_rounds() {
         let mut held = Held::empty();
         for step in opens_in_turn(&[4, 6, 8, 2, 12]) {
             change(&mut held, step);
         }
         let shown = show(&held.plan, 5).unwrap();
-        let rounds = first_rounds(&shown);
+        let rounds = border_rounds(&shown);
         let owned = |&&round: &&u64| owner(&held.plan, round) == Some(5);
         assert_eq!(rounds.iter().filter(owned).count(), 3);
         for border in [

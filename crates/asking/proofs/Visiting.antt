@@ -2,7 +2,7 @@
 -- Assumes nothing.
 use Prim.Native.Nat.{ℕ, suc, _+_, _*_, _/_, _%_, _<_}
 use native.Mathlib.Omega.{arith}
-use native.Mathlib.Nat.{mod-one, mod-lt, mul-comm}
+use native.Mathlib.Nat.{mod-one, mod-lt}
 use native.Mathlib.Decide.{decLt}
 use mathlib.Core.Path.{_≡_, refl, sym, _∙_, ap, subst}
 use mathlib.Core.Bool.{true, false, not-eq-not}
@@ -17,43 +17,36 @@ use Rattle.tree.specs.Asking.{TakesEdge, LeadsTo}
 use Rattle.tree.specs.Record.{row-at, path-at, legal}
 use Rattle.bridge.specs.Rows.{plan-of, tree-of}
 use Rattle.paths.specs.Rules.{row-of, same-node, line-under}
-use Rattle.tree.proofs.Digits.{digit}
 use Rattle.tree.proofs.Proper.{Proper, legal-proper}
-use Rattle.tree.proofs.Opening.{at-proper}
-use Rattle.tree.proofs.LedRounds.{offset-below-step, led-to-edge}
+use Rattle.tree.proofs.LedRounds.{offset-below-step, leads-to-selected, led-to-edge}
 use Rattle.tree.proofs.Depth.{step-at-most-2047}
 use Rattle.paths.proofs.PathRows.{row-in-path, weight-read}
 use Rattle.paths.proofs.PathNumbers.{Carried, carried-start, carried-row}
-use Rattle.bridge.proofs.NodesOnPaths.{place-on, way-sum, same-node-exactly, same-node-weight}
+use Rattle.bridge.proofs.NodesOnPaths.{place-on, node-proper, way-sum, same-node-exactly, same-node-weight}
 use Rattle.bridge.proofs.ClassOnPaths.{family-path, node-on-path}
 use Rattle.bridge.proofs.TreeOfRecord.{treeOf-illegal, treeOf-path-beyond, legal-on-record, paths-on-record}
 use Rattle.asking.specs.Visits.{visited, Visits}
-use Rattle.asking.proofs.Walking.{line-under-takes, line-under-within, through-next, weight-above-0}
+use Rattle.asking.proofs.Walking.{line-under-takes, line-under-within, through-next}
 
--- a round's remainder by m·w: its remainder by m, and the digit before
-next-offset : (m w n : ℕ) → 0 < m → 0 < w → n % (m * w) ≡ n % m + n / m % w * m
-next-offset m w n step-positive weight-positive =
-    digit n m w (n % m) (n / m % w) (mod-lt n step-positive) (mod-lt (n / m) weight-positive) .1 (refl, refl) ∙ ap (_+_ (n % m)) (mul-comm m (n / m % w))
-
--- In every legal tree the walk for the round passes the node visited, and takes there the edge that what is carried selects
+-- In every legal tree the walk for the round passes the node visited, and takes the edge there that the round selects by the step
 
 module _ (t : Tree) (is-legal : Legal t) {L l m n : ℕ} (here : Visits t L l m n) where
-  tree-proper : Proper t
-  tree-proper = legal-proper t is-legal
-
   pub step-positive : 0 < m
   unfolding at way step present
-  step-positive = omega (arith, here .step-is, offset-below-step l (n % m) t tree-proper (ap present (here .node-is)))
+  step-positive = omega (arith, here .step-is, offset-below-step l (n % m) t (legal-proper t is-legal) (ap present (here .node-is)))
 
   weight-positive : 0 < here .weight
-  unfolding at Proper
-  weight-positive = subst Proper (here .node-is) (at-proper l (n % m) t tree-proper) .0
+  unfolding Proper
+  weight-positive = node-proper t is-legal (visited l m n) (here .weight) (here .edges) (here .node-is) .0
 
-  pub visited-edge-taken : TakesEdge (visited l m n) (here .weight) (n / m % here .weight) n t
-  unfolding LeadsTo
-  visited-edge-taken =
+  -- the rounds of that edge, of which n is one
+  led-to : LeadsTo m (here .weight) (n % m) (n / m % here .weight) n
+  led-to = leads-to-selected m (here .weight) _ _ n (mod-lt n step-positive) (mod-lt (n / m) weight-positive) .1 (refl, refl)
+
+  edge-taken : TakesEdge (visited l m n) (here .weight) (n / m % here .weight) n t
+  edge-taken =
       led-to-edge t (visited l m n) (here .weight) (here .edges) (n / m % here .weight) n is-legal (here .node-is) (mod-lt (n / m) weight-positive) .0 .1
-      (rw (← here .step-is) (next-offset m (here .weight) n step-positive weight-positive))
+      (rw (← here .step-is) led-to)
 
 -- In a record
 
@@ -61,7 +54,7 @@ module _ (t : Tree) (is-legal : Legal t) {L l m n : ℕ} (here : Visits t L l m 
 module _ (rows : List ℕ) {L l m n : ℕ} (here : Visits (tree-of rows) L l m n) where
   stands-somewhere : path L (tree-of rows) ≡ none → ⊥
   unfolding path-of
-  stands-somewhere absent = let none-there : l < 0 = rw absent at (here .goes-on) in omega arith
+  stands-somewhere absent = let none-there : l < 0 = rw absent at (here .level-below) in omega arith
 
   record-legal : legal rows ≡ true
   unfolding tree-of path
@@ -72,7 +65,7 @@ module _ (rows : List ℕ) {L l m n : ℕ} (here : Visits (tree-of rows) L l m n
   line-below = elim (decLt L 64) [ yes less ↦ less | no more ↦ absurd (stands-somewhere (treeOf-path-beyond (plan-of rows) L (omega arith))) ]
 
   pub visits-within : (legal rows ≡ true) × (L < 64) × (l < length (path-at rows L))
-  visits-within = (record-legal, line-below, rw (paths-on-record rows record-legal L line-below) (here .goes-on))
+  visits-within = (record-legal, line-below, rw (paths-on-record rows record-legal L line-below) (here .level-below))
 
 module _ (rows : List ℕ) (is-legal : legal rows ≡ true) where
   -- At a level of line L's path a node is visited exactly when what is carried are the numbers of the rows above it
@@ -80,6 +73,9 @@ module _ (rows : List ℕ) (is-legal : legal rows ≡ true) where
   module _ (L : ℕ) (below : L < 64) where
     same-path : path-at rows L ≡ path-of L (tree-of rows)
     same-path = paths-on-record rows is-legal L below
+
+    carried-place : (n : ℕ) {l m : ℕ} → Carried rows L m (n % m) l → visited l m n ≡ place-on l (path-at rows L)
+    carried-place n {l} carried i = record { level = l; offset = carried .sum-is i }
 
     module _ {l m n : ℕ} where
       visits-carried : Visits (tree-of rows) L l m n → Carried rows L m (n % m) l
@@ -96,19 +92,35 @@ module _ (rows : List ℕ) (is-legal : legal rows ≡ true) where
       unfolding step
       carried-visits long carried =
           let x = node-on-path (tree-of rows) (path-at rows) (paths-on-record rows is-legal) L l below long in
-          let place : visited l m n ≡ place-on l (path-at rows L) = λ i. record { level = l; offset = carried .sum-is i } in
-          let node-is = ap (λ a. at a (tree-of rows)) place ∙ x .node-is in
-          let way-is = ap (λ a. way a (tree-of rows)) place ∙ x .way-is in
+          let node-is = ap (λ a. at a (tree-of rows)) (carried-place n carried) ∙ x .node-is in
+          let way-is = ap (λ a. way a (tree-of rows)) (carried-place n carried) ∙ x .way-is in
           let step-is : m ≡ step (visited l m n) (tree-of rows) = carried .product-is ∙ ap product (sym way-is) in
           record {
             weight = row-of l (path-at rows L) .weight;
             edges = x .edges;
             node-is = node-is;
-            goes-on = rw same-path at long;
+            level-below = rw same-path at long;
             rows-above = ap (take l) (sym same-path) ∙ sym way-is;
             step-is = step-is;
             step-at-most = rw step-is (step-at-most-2047 (tree-of rows) (visited l m n) _ _ (legal-on-record rows) node-is);
           }
+
+      -- w was read as the node's weight
+      module _ (here : Visits (tree-of rows) L l m n) {w : ℕ} (read : w ≡ row-at rows L l .weight) where
+        visits-weight : here .weight ≡ w
+        visits-weight =
+            let long = visits-within rows here .2 in
+            let x = node-on-path (tree-of rows) (path-at rows) (paths-on-record rows is-legal) L l below long in
+            let one-node = sym (here .node-is) ∙ ap (λ a. at a (tree-of rows)) (carried-place n (visits-carried here)) ∙ x .node-is in
+            let one-weight : here .weight ≡ row-of l (path-at rows L) .weight = cc in
+            one-weight ∙ weight-read rows L long read
+
+        visits-led-to : LeadsTo m w (n % m) (n / m % w) n
+        visits-led-to = rw visits-weight at (led-to (tree-of rows) (legal-on-record rows) here)
+
+        -- (Asking the plan, 1) the walk over the tree takes there the edge that is selected
+        pub visited-edge-taken : TakesEdge (visited l m n) w (n / m % w) n (tree-of rows)
+        visited-edge-taken = rw visits-weight at (edge-taken (tree-of rows) (legal-on-record rows) here)
 
     -- the root, which every open line's path goes through
     pub visits-root : (n : ℕ) → 0 < length (path-at rows L) → Visits (tree-of rows) L 0 1 n
@@ -160,8 +172,9 @@ module _ (rows : List ℕ) {M l m n : ℕ} (here : Visits (tree-of rows) M l m n
 
   -- where it goes on, the next node on it is visited too
   pub visits-child : eqb (length (path-at rows N)) (suc l) ≡ false → Visits (tree-of rows) N (l + 1) (m * w) n
+  unfolding LeadsTo
   visits-child ends =
       let next-node = through-next (path-at rows) (path-at rows M) l (n / m % w) N under ends in
-      let offset = next-offset m w n (step-positive (tree-of rows) (legal-on-record rows) here) (weight-above-0 rows M (given .2) read) in
+      let offset = visits-led-to rows (given .0) M (given .1) here read in
       carried-visits rows (given .0) N (within .0) next-node
       (subst (λ (r : ℕ). Carried rows N (m * w) r (l + 1)) (sym offset) (carried-row carried-on (within .1) edge-there weight-there))

@@ -6,7 +6,7 @@ use mathlib.Core.Path.{_≡_}
 use lib.ListN.{length, take}
 use Rattle.tree.specs.Tree.{Tree, node, path-of, Place, at, way, step}
 
--- (The tree, 8, 11) The place at level l whose offset is round n modulo m
+-- the place at level l whose offset is round n modulo m
 abbrev pub visited : ℕ → ℕ → ℕ → Place
 visited l m n = record { level = l; offset = n % m }
 
@@ -17,7 +17,7 @@ pub record Visits (t : Tree) (L l m n : ℕ) : Type 0 where
   pub edges : ℕ → Tree
   pub node-is : at (visited l m n) t ≡ node weight edges
   -- line L's path goes through it
-  pub goes-on : l < length (path-of L t)
+  pub level-below : l < length (path-of L t)
   pub rows-above : take l (path-of L t) ≡ way (visited l m n) t
   -- what is carried is its step, at most 2,047
   pub step-is : m ≡ step (visited l m n) t

@@ -85,7 +85,7 @@ fn ends_below(rows: &[u16; 1408], line: usize, level: usize) -> bool
     paths::weight(rows, line, level + 1) == 0
 }
 
-// The walk for a round, from a node at a level of a line's path to the child that the round selects, through at most `left`
+// The walk for a round, from the node at a level of a line's path to the child that the round selects, through at most `left`
 // nodes. It carries the step of the node that it visits.
 fn walk(rows: &[u16; 1408], line: usize, level: usize, left: usize, step: u64, round: u64) -> Owner
     requires { ⌜ Visits (tree-of (now rows)) line level step round ⌝ }

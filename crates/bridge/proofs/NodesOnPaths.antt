@@ -145,7 +145,7 @@ path-line-below : (M : ℕ) (t : Tree) (rs : List Row) → Legal t → path M t 
 path-line-below M t rs legal h = let small = stands-number M t _ _ legal (path-stands M t rs h) in omega arith
 
 module _ (t : Tree) (legal : Legal t) (a : Place) (w : ℕ) (f : ℕ → Tree) (here : at a t ≡ node w f) where
-  node-proper : Proper (node w f)
+  pub node-proper : Proper (node w f)
   unfolding at
   node-proper = subst Proper here (at-proper (a .level) (a .offset) t (legal-proper t legal))
 

@@ -73,7 +73,7 @@ product-fits m (node w f) legal here =
     let most : m ≤ m * w = le-mul-of-pos-right m (omega arith) in
     omega arith
 
--- a node's own weight, at least 2, belongs to such a product too
+-- a node's step times its weight is such a product, and the weight is at least 2
 step-fits : (m l r : ℕ) (t : Tree) (w : ℕ) (f : ℕ → Tree) → LegalUnder m t → at-digits l r t ≡ node w f → m * product (way-by-digits l r t) ≤ 2047
 unfolding LegalUnder at-digits way-by-digits product present
 step-fits m zero zero t w f legal is =
@@ -87,12 +87,7 @@ step-fits m (suc l) r (line n) w f legal is = absurd (false≢true (ap present i
 step-fits m (suc l) r (node v g) w f legal is =
     rw (← mul-assoc) (step-fits (m * v) l (r / v) (g (r % v)) w f (legal .2 (r % v)) is)
 
--- no way goes down where no node stands
-way-in-nothing : (l r : ℕ) → product (way-by-digits l r nothing) ≡ 1
-unfolding way-by-digits product
-way-in-nothing zero r = refl
-way-in-nothing (suc l) r = refl
-
+-- where the root has weight 1 a line stands under it, and every step is 1
 way-in-line : (l r n : ℕ) → product (way-by-digits l r (line n)) ≡ 1
 unfolding way-by-digits product
 way-in-line zero r n = refl
@@ -106,8 +101,8 @@ way-in-alone (suc l) r t alone =
 
 -- the step of every node is at most 2047
 pub step-at-most-2047 : (t : Tree) (a : Place) (w : ℕ) (f : ℕ → Tree) → Legal t → at a t ≡ node w f → step a t ≤ 2047
-unfolding Legal at way step
-step-at-most-2047 nothing a w f legal is = omega (arith, way-in-nothing (a .level) (a .offset))
+unfolding Legal LegalUnder at way step
+step-at-most-2047 nothing a w f legal is = rw one-mul at (step-fits 1 (a .level) (a .offset) nothing w f legal is)
 step-at-most-2047 (line n) a w f legal is = absurd legal
 step-at-most-2047 (node v g) a w f (inl legal) is = rw one-mul at (step-fits 1 (a .level) (a .offset) (node v g) w f legal is)
 step-at-most-2047 (node v g) a w f (inr alone) is = omega (arith, way-in-alone (a .level) (a .offset) (node v g) alone)

@@ -1,11 +1,12 @@
 -- The joint proof of the joint table (specs/Cases.antt): the definitions give every answer in it, by computation.
 -- Assumes nothing.
+use Prim.Native.Nat.{ℕ}
 use mathlib.Core.Path.{_≡_, refl}
 use mathlib.Core.List.{map}
 use lib.ListN.{set}
 use Rattle.tree.specs.Numbers.{divides, euclid, gcd}
 use Rattle.tree.specs.Search.{found, or-else, first, smallest, some-below, all-below, total-below, count-below}
-use Rattle.tree.specs.Tree.{nothing, present, product, sum-from, sum, path, is-open, path-of, period-of, start-of, at-digits, at, way-by-digits, way, step}
+use Rattle.tree.specs.Tree.{Tree, nothing, node, present, product, sum-from, sum, path, is-open, path-of, period-of, start-of, Place, at-digits, at, way-by-digits, way, step}
 use Rattle.tree.specs.Opening.{divisor, free, free-class, candidate, before, better, best-below, under, best, chosen, put, one-edge, group, split, newcomer, booking, book-by-digits, class-at, book-into, opened, start-in, start-given}
 use Rattle.tree.specs.Closing.{prune, closed}
 use Rattle.tree.specs.Asking.{owner, rows-11, shown, is-line, owns, turns}
@@ -34,7 +35,7 @@ pub damaged-record-of-A : treeOf (record { rows = set (recordOf (left-by nothing
 unfolding computation
 damaged-record-of-A = refl
 
--- no number below 2,047 bounds the steps of all nodes
-pub step-2047-reached : step (record { level = 1; offset = 0 }) (left-by nothing step-2047) ≡ 2047
+-- no number below 2,047 bounds the steps of all nodes: the node at level 1 and offset 0 has weight 2 and this step
+pub step-2047-reached : let a : Place = record { level = 1; offset = 0 } in let t = left-by nothing step-2047 in (f : ℕ → Tree) × (at a t ≡ node 2 f) × (step a t ≡ 2047)
 unfolding computation
-step-2047-reached = refl
+step-2047-reached = (_, refl, refl)

@@ -70,7 +70,7 @@ passed (suc l) r n e (node v g) w f below proper is h =
 -- The rounds of an edge
 
 -- the rounds that leave r + e·m modulo m·w are the node's own that select e there
-leads-to-selected : (m w r e n : ℕ) → r < m → e < w → LeadsTo m w r e n ↔ ((n % m ≡ r) × (n / m % w ≡ e))
+pub leads-to-selected : (m w r e n : ℕ) → r < m → e < w → LeadsTo m w r e n ↔ ((n % m ≡ r) × (n / m % w ≡ e))
 unfolding LeadsTo
 leads-to-selected m w r e n r-below e-below =
     let two = digit n m w r e r-below e-below in

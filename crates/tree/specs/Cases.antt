@@ -173,7 +173,7 @@ turns-from-a-round =
     ∷ turns-of 2 18446744073709551615 11 (gives 2)
     ∷ [])
 
--- ours: the largest step that a node can have, 2,047, above a weight of 2. The walk leaves that node by either edge.
+-- ours: the largest step that a node can have, 2,047, with a weight of 2. The rounds asked select both its edges, and under edge 1 nothing stands.
 unfoldable pub step-2047 : List Step
 step-2047 =
     opens 1 4094 (booked 0)

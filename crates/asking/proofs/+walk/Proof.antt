@@ -51,6 +51,9 @@ callees t = (
   walk.Post,
 )
 
+-- What follows up to `walk-line-under-requires` holds of the root's weight too, and of any remainder: so a version that reads that weight, or divides another
+-- number, is refused for its answer.
+
 -- the node visited is on the line's path, and the weight that was read is above 0
 on-path : (t : ℕ) (c : walk-lts.Start (callees t) (walk-at t) walk.Post) → c .args .level < length (path-at (now (c .args .rows)) (c .args .line))
 on-path t c = visits-within _ (c .pre .1) .2
