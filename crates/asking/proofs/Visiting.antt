@@ -22,7 +22,7 @@ use Rattle.tree.proofs.LedRounds.{offset-below-step, leads-to-selected, led-to-
 use Rattle.tree.proofs.Depth.{step-at-most-2047}
 use Rattle.paths.proofs.PathRows.{row-in-path, weight-read}
 use Rattle.paths.proofs.PathNumbers.{Carried, carried-start, carried-row}
-use Rattle.bridge.proofs.NodesOnPaths.{place-on, node-proper, way-sum, same-node-exactly, same-node-weight}
+use Rattle.bridge.proofs.NodesOnPaths.{place-on, NodeOnPath, node-proper, way-sum, same-node-exactly, same-node-weight}
 use Rattle.bridge.proofs.ClassOnPaths.{family-path, node-on-path}
 use Rattle.bridge.proofs.TreeOfRecord.{treeOf-illegal, treeOf-path-beyond, legal-on-record, paths-on-record}
 use Rattle.asking.specs.Visits.{visited, Visits}
@@ -74,6 +74,9 @@ module _ (rows : List ℕ) (is-legal : legal rows ≡ true) where
     same-path : path-at rows L ≡ path-of L (tree-of rows)
     same-path = paths-on-record rows is-legal L below
 
+    node-here : {l : ℕ} → l < length (path-at rows L) → NodeOnPath L (tree-of rows) l (path-at rows L)
+    node-here {l} long = node-on-path (tree-of rows) (path-at rows) (paths-on-record rows is-legal) L l below long
+
     carried-place : (n : ℕ) {l m : ℕ} → Carried rows L m (n % m) l → visited l m n ≡ place-on l (path-at rows L)
     carried-place n {l} carried i = record { level = l; offset = carried .sum-is i }
 
@@ -91,13 +94,12 @@ module _ (rows : List ℕ) (is-legal : legal rows ≡ true) where
       carried-visits : l < length (path-at rows L) → Carried rows L m (n % m) l → Visits (tree-of rows) L l m n
       unfolding step
       carried-visits long carried =
-          let x = node-on-path (tree-of rows) (path-at rows) (paths-on-record rows is-legal) L l below long in
-          let node-is = ap (λ a. at a (tree-of rows)) (carried-place n carried) ∙ x .node-is in
-          let way-is = ap (λ a. way a (tree-of rows)) (carried-place n carried) ∙ x .way-is in
+          let node-is = ap (λ a. at a (tree-of rows)) (carried-place n carried) ∙ node-here long .node-is in
+          let way-is = ap (λ a. way a (tree-of rows)) (carried-place n carried) ∙ node-here long .way-is in
           let step-is : m ≡ step (visited l m n) (tree-of rows) = carried .product-is ∙ ap product (sym way-is) in
           record {
             weight = row-of l (path-at rows L) .weight;
-            edges = x .edges;
+            edges = node-here long .edges;
             node-is = node-is;
             level-below = rw same-path at long;
             rows-above = ap (take l) (sym same-path) ∙ sym way-is;
@@ -110,8 +112,7 @@ module _ (rows : List ℕ) (is-legal : legal rows ≡ true) where
         visits-weight : here .weight ≡ w
         visits-weight =
             let long = visits-within rows here .2 in
-            let x = node-on-path (tree-of rows) (path-at rows) (paths-on-record rows is-legal) L l below long in
-            let one-node = sym (here .node-is) ∙ ap (λ a. at a (tree-of rows)) (carried-place n (visits-carried here)) ∙ x .node-is in
+            let one-node = sym (here .node-is) ∙ ap (λ a. at a (tree-of rows)) (carried-place n (visits-carried here)) ∙ node-here long .node-is in
             let one-weight : here .weight ≡ row-of l (path-at rows L) .weight = cc in
             one-weight ∙ weight-read rows L long read
 
