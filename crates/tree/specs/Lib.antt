@@ -11,6 +11,7 @@ pub mod Closing
 pub mod Asking
 pub mod Refusals
 pub mod Calls
+pub mod Trial
 pub mod Lists
 pub mod Demand3
 pub mod Record
