@@ -36,6 +36,15 @@ carried-on : (c : Call) (rows after : List ℕ) → refusal c (tree-of rows) ≡
 unfolding answer answer-unless rows-after rows-unless
 carried-on c rows after h same = record { answer-is = rw h; rows-are = rw h same }
 
+-- a line is open, and no node is a candidate
+pub no-room-on : (rows : List ℕ) (p M : ℕ) → legal rows ≡ true → M < 64 → no-rows (path-at rows M) ≡ false → best-of-lines (path-at rows) p 64 ≡ none → no-room p (tree-of rows) ≡ true
+unfolding no-room found
+no-room-on rows p M is-legal below there none-found =
+    let t = tree-of rows in
+    let here = stands-present M t _ _ (open-stands M t (open-on-record rows is-legal M below ∙ ap not there)) in
+    let none-chosen = search-none t (legal-on-record rows) (path-at rows) (paths-on-record rows is-legal) p none-found in
+    rw (here, none-chosen)
+
 module _ (rows : List ℕ) (is-legal : legal rows ≡ true) (long : length rows ≡ 1408) where
   abbrev t : Tree
   t = tree-of rows
@@ -59,23 +68,21 @@ module _ (rows : List ℕ) (is-legal : legal rows ≡ true) (long : length rows 
     last-check : open-refusal L p t ≡ (if no-room p t then some 5 else none)
     last-check = open-last-check L p t number inside not-open
 
-    pub open-first-on : 0 < p → AllClosed rows → CarriedOut (open-line L p) rows (set-line rows L (row p 0 ∷ [])) (booked 0)
-    unfolding refusal reply carried-out tree-of no-room present
-    open-first-on positive closed =
-        let empty : t ≡ nothing = all-closed-nothing (record { rows = rows }) is-legal closed in
-        let room : no-room p t ≡ false = ap (no-room p) empty in
-        subst (λ (a : ℕ). CarriedOut (open-line L p) rows (set-line rows L (row p 0 ∷ [])) (booked a)) (ap (start-given p) empty ∙ start-empty p)
-        (carried-on (open-line L p) rows (set-line rows L (row p 0 ∷ []))
-        (last-check ∙ ap (λ (b : Bool). if b then some 5 else none) room)
-        (first-record (record { rows = rows }) L p (omega arith) positive is-legal long closed ∙ ap (λ (x : Tree). recordOf (opened L p x) .rows) (sym empty)))
+    module _ (closed : AllClosed rows) where
+      empty : t ≡ nothing
+      unfolding tree-of
+      empty = all-closed-nothing (record { rows = rows }) is-legal closed
 
-    pub open-full-on : (M : ℕ) → M < 64 → no-rows (path-at rows M) ≡ false → best-of-lines (path-at rows) p 64 ≡ none → CarriedOut (open-line L p) rows rows (refused 5)
-    unfolding refusal no-room found
-    open-full-on M below there none-found =
-        let here = stands-present M t _ _ (open-stands M t (open-on-record rows is-legal M below ∙ ap not there)) in
-        let none-chosen = search-none t (legal-on-record rows) (path-at rows) (paths-on-record rows is-legal) p none-found in
-        let full : no-room p t ≡ true = rw (here, none-chosen) in
-        refused-on (open-line L p) rows 5 (last-check ∙ ap (λ (b : Bool). if b then some 5 else none) full)
+      pub first-not-refused : open-refusal L p t ≡ none
+      unfolding no-room present
+      first-not-refused = last-check ∙ ap (λ (x : Tree). if no-room p x then some 5 else none) empty
+
+      pub open-first-on : 0 < p → CarriedOut (open-line L p) rows (set-line rows L (row p 0 ∷ [])) (booked 0)
+      unfolding refusal reply carried-out tree-of
+      open-first-on positive =
+          subst (λ (a : ℕ). CarriedOut (open-line L p) rows (set-line rows L (row p 0 ∷ [])) (booked a)) (ap (start-given p) empty ∙ start-empty p)
+          (carried-on (open-line L p) rows (set-line rows L (row p 0 ∷ [])) first-not-refused
+          (first-record (record { rows = rows }) L p (omega arith) positive is-legal long closed ∙ ap (λ (x : Tree). recordOf (opened L p x) .rows) (sym empty)))
 
     module _ (s : Spot) (found-one : best-of-lines (path-at rows) p 64 ≡ some s) where
       pub spot-found : FoundSpot p t (path-at rows) s
@@ -85,7 +92,7 @@ module _ (rows : List ℕ) (is-legal : legal rows ≡ true) (long : length rows 
       unfolding no-room found
       room-found = ap (λ (o : Option Place). present t && not (found o)) (spot-found .chosen-is) ∙ and-false (present t)
 
-      not-refused : open-refusal L p t ≡ none
+      pub not-refused : open-refusal L p t ≡ none
       not-refused = last-check ∙ ap (λ (b : Bool). if b then some 5 else none) room-found
 
       pub may-open : MayOpen L p t

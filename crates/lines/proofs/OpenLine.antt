@@ -5,66 +5,85 @@ use native.Mathlib.Omega.{arith}
 use mathlib.Core.Path.{_≡_, refl, _∙_, ap, ap₂}
 use mathlib.Core.Bool.{Bool, true, false, not}
 use mathlib.Core.List.{List, [], _∷_}
-use mathlib.Core.Option.{none}
+use mathlib.Core.Option.{none, some}
 use lib.Dec.{ltb}
 use lib.ListN.{length, take, length-take}
 use Rattle.tree.specs.declared.Row.{Row}
 use Rattle.tree.specs.Search.{if_then_else_}
 use Rattle.tree.specs.Tree.{row}
-use Rattle.tree.specs.Refusals.{period-out-of-range}
-use Rattle.tree.specs.Calls.{open-line, refusal, refused, booked}
+use Rattle.tree.specs.Refusals.{period-out-of-range, no-room, open-refusal}
+use Rattle.tree.specs.Calls.{open-line, booked}
 use Rattle.tree.specs.Record.{path-at, no-rows, legal}
 use Rattle.paths.specs.Rules.{row-of, same-node, Spot, best-of-lines, set-line, split-path, booked-path, booked-at}
-use Rattle.tree.proofs.Checks.{range-positive, range-at-most, open-refused-1, open-refused-2, open-refused-3, zero-out-of-range, above-out-of-range}
+use Rattle.tree.proofs.Checks.{range-positive, range-at-most, open-refused-3, open-last-check}
 use Rattle.tree.proofs.Opening.{MayOpen}
 use Rattle.paths.proofs.RowLaws.{no-rows-empty}
 use Rattle.paths.proofs.LegalLines.{legal-rest-unused}
-use Rattle.candidates.specs.Edges.{EndOfLines}
+use Rattle.candidates.specs.declared.Spot.{Spot as CandidateSpot}
+use Rattle.candidates.specs.Answers.{spot-in}
+use Rattle.candidates.specs.Edges.{ClosedFrom, EndOfLines}
 use Rattle.booking.specs.Writing.{Placeable}
 use Rattle.bridge.specs.Rows.{tree-of, CarriedOut}
 use Rattle.bridge.proofs.SearchOnPaths.{FoundSpot}
 use Rattle.bridge.proofs.FirstRecord.{AllClosed}
 use Rattle.bridge.proofs.TreeOfRecord.{open-on-record}
-use Rattle.bridge.proofs.CallsOnRecords.{refused-on, open-first-on, open-full-on, spot-found, may-open}
+use Rattle.bridge.proofs.CallsOnRecords.{no-room-on, open-first-on, spot-found, may-open}
 use Rattle.bridge.proofs.SpotFacts.{divisor-positive, product-at-most, product-positive, start-below, row-left, rows-fit}
 use Rattle.bridge.proofs.BookedRecord.{split-path-at}
+use Rattle.lines.specs.declared.offer.Offer.{Offer}
+use Rattle.lines.specs.declared.offer.Offer.the-variants.{Refused, Root, At}
 use Rattle.lines.specs.Bookable.{Bookable, BookableAt, SplittableIfSmaller, split-if-smaller}
+use Rattle.lines.specs.Offers.{Searched, Offered}
 
--- Refused before the search
+-- What is offered
 
-pub open-above : (rows : List ℕ) (L p : ℕ) → 63 < L → CarriedOut (open-line L p) rows rows (refused 1)
-unfolding refusal
-open-above rows L p above = refused-on (open-line L p) rows 1 (open-refused-1 L p (tree-of rows) above)
+-- the lines from 0 on are closed
+none-open : {rows : List ℕ} → ClosedFrom rows 0 → AllClosed rows
+unfolding AllClosed
+none-open closed M below = closed .closed M (omega arith) below
 
-pub open-zero : (rows : List ℕ) (L p : ℕ) → L ≤ 63 → p ≡ 0 → CarriedOut (open-line L p) rows rows (refused 2)
-unfolding refusal
-open-zero rows L p number h = refused-on (open-line L p) rows 2 (open-refused-2 L p (tree-of rows) number (zero-out-of-range p h))
+module _ {rows : List ℕ} {end : ℕ} (lines : EndOfLines rows end) where
+  pub root-found : end ≡ 0 → ClosedFrom rows 0
+  root-found is-0 = rw is-0 at (lines .closed-from)
 
-pub open-long : (rows : List ℕ) (L p : ℕ) → L ≤ 63 → 0 < p → 4095 < p → CarriedOut (open-line L p) rows rows (refused 2)
-unfolding refusal
-open-long rows L p number positive above =
-    refused-on (open-line L p) rows 2 (open-refused-2 L p (tree-of rows) number (above-out-of-range p positive above))
-
-pub open-again : (rows : List ℕ) (L p : ℕ) → legal rows ≡ true → L ≤ 63 → period-out-of-range p ≡ false → no-rows (path-at rows L) ≡ false → CarriedOut (open-line L p) rows rows (refused 3)
-unfolding refusal
-open-again rows L p is-legal number inside there =
-    refused-on (open-line L p) rows 3
-    (open-refused-3 L p (tree-of rows) number inside (open-on-record rows is-legal L (omega arith) ∙ ap not there))
-
--- By the end of the open lines
-
-module _ (rows : List ℕ) (L p : ℕ) (ready : Bookable rows L p) (long : length rows ≡ 1408) (end : ℕ) (lines : EndOfLines rows end) where
-  pub open-first : end ≡ 0 → CarriedOut (open-line L p) rows (set-line rows L (row p 0 ∷ [])) (booked 0)
-  unfolding AllClosed
-  open-first none-open =
-      open-first-on rows (ready .is-legal) long L p (ready .number) (ready .inside) (ready .absent) (range-positive p (ready .inside))
-      (λ M below. lines .closed-from .closed M (omega arith) below)
-
-  pub open-full : (end ≡ 0 → ⊥) → best-of-lines (path-at rows) p 64 ≡ none → CarriedOut (open-line L p) rows rows (refused 5)
-  open-full some-open none-found =
+  pub no-room-found : (p : ℕ) → legal rows ≡ true → (end ≡ 0 → ⊥) → best-of-lines (path-at rows) p 64 ≡ none → no-room p (tree-of rows) ≡ true
+  no-room-found p is-legal some-open none-found =
       let below = lines .closed-from .within in
-      let last = lines .last-open (end - 1) (omega arith) in
-      open-full-on rows (ready .is-legal) long L p (ready .number) (ready .inside) (ready .absent) (end - 1) (omega arith) last none-found
+      no-room-on rows p (end - 1) is-legal (omega arith) (lines .last-open (end - 1) (omega arith)) none-found
+
+pub open-again : (rows : List ℕ) (L p : ℕ) → legal rows ≡ true → L ≤ 63 → period-out-of-range p ≡ false → no-rows (path-at rows L) ≡ false → open-refusal L p (tree-of rows) ≡ some 3
+open-again rows L p is-legal number inside there =
+    open-refused-3 L p (tree-of rows) number inside (open-on-record rows is-legal L (omega arith) ∙ ap not there)
+
+-- an open that passes the checks 1, 2 and 3 is offered what the search finds
+pub offered-if-bookable : (rows : List ℕ) (L p : ℕ) → Bookable rows L p → (o : Offer) → Searched rows p o → Offered rows L p o
+unfolding Searched Offered
+offered-if-bookable rows L p ready (Refused n) searched =
+    let number = ready .number in
+    let absent = open-on-record rows (ready .is-legal) L (omega arith) ∙ ap not (ready .absent) in
+    open-last-check L p (tree-of rows) number (ready .inside) absent ∙ rw (searched .1, searched .0)
+offered-if-bookable rows L p ready Root searched = (ready, searched)
+offered-if-bookable rows L p ready (At s) searched = record { bookable = ready; found-one = searched }
+
+-- the offer, read case by case
+module _ (rows : List ℕ) (L p : ℕ) {o : Offer} (offered : Offered rows L p o) where
+  pub offered-refusal : {n : ℕ} → o ≡ Refused n → open-refusal L p (tree-of rows) ≡ some n
+  unfolding Offered
+  offered-refusal told = rw told at offered
+
+  pub offered-root : o ≡ Root → Bookable rows L p × ClosedFrom rows 0
+  unfolding Offered
+  offered-root told = rw told at offered
+
+  pub offered-spot : {s : CandidateSpot} → o ≡ At s → BookableAt rows L p (spot-in s)
+  unfolding Offered
+  offered-spot told = rw told at offered
+
+-- Under the root of an empty plan
+
+pub open-first : (rows : List ℕ) (L p : ℕ) → Bookable rows L p → length rows ≡ 1408 → ClosedFrom rows 0 → CarriedOut (open-line L p) rows (set-line rows L (row p 0 ∷ [])) (booked 0)
+open-first rows L p ready long closed =
+    open-first-on rows (ready .is-legal) long L p (ready .number) (ready .inside) (ready .absent) (none-open closed) (range-positive p (ready .inside))
 
 -- At the chosen candidate
 

@@ -1,2 +1,3 @@
 pub mod Answers
 pub mod Bookable
+pub mod Offers

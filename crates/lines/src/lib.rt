@@ -7,12 +7,14 @@ ghost use Rattle.tree.specs.Record.{path-at, no-rows, legal};
 ghost use Rattle.candidates.specs.Answers.{spot-in};
 ghost use Rattle.bridge.specs.Rows.{CarriedOut};
 ghost use Rattle.lines.specs.Answers.{open-answer, close-answer};
-ghost use Rattle.lines.specs.Bookable.{Bookable, BookableAt, SplittableIfSmaller, split-if-smaller};
-use candidates::Chosen;
+ghost use Rattle.lines.specs.Bookable.{BookableAt, SplittableIfSmaller, split-if-smaller};
 use candidates::Spot;
+use offer::Offer;
 use paths::Found;
 use tree::Period;
 use tree::Start;
+
+pub mod offer;
 
 // What an open answers: the start of the line that was booked, or the number with which it is refused.
 pub enum OpenAnswer {
@@ -80,43 +82,20 @@ fn book_at(rows: &mut [u16; 1408], line: usize, period: Period, spot: Spot) -> O
     OpenAnswer::Booked(start)
 }
 
-// The first line of a plan gets a root of its period; another one is booked at the chosen candidate, and refused with 5
-// where there is none.
-fn book_line(rows: &mut [u16; 1408], line: usize, period: Period) -> OpenAnswer
-    requires { ⌜ Bookable (now rows) line (period .0) ⌝ }
-    ensures { λ r. ⌜ CarriedOut (open-line line (period .0)) (now (rows .entry)) (now (rows .exit)) (open-answer r) ⌝ }
-{
-    paths::whole(rows);
-    let end = candidates::lines_end(rows);
-    if end == 0 {
-        booking::place_first(rows, line, period);
-        return OpenAnswer::Booked(Start(0));
-    }
-    let chosen = candidates::best_candidate(rows, end, period);
-    let Chosen::At(spot) = chosen else {
-        return OpenAnswer::Refused(5);
-    };
-    book_at(rows, line, period, spot)
-}
-
-// Open: 1 for a line above 63, 2 for a period out of range, 3 for a line that is open, 5 where there is no candidate; else the line is booked.
+// Open: refused as the offer says, with 1, 2, 3 or 5; else the line is booked, the first line of a plan under a root of its period, another one at the
+// chosen candidate.
 pub fn open_line(rows: &mut [u16; 1408], line: u64, period: Period) -> OpenAnswer
     requires { ⌜ legal (now rows) ≡ true ⌝ }
     ensures { λ r. ⌜ CarriedOut (open-line line (period .0)) (now (rows .entry)) (now (rows .exit)) (open-answer r) ⌝ }
 {
     paths::whole(rows);
-    if 63 < line {
-        return OpenAnswer::Refused(1);
+    let offer = offer::offer_to(rows, line, period);
+    match offer {
+        Offer::Refused(number) => OpenAnswer::Refused(number),
+        Offer::Root => {
+            booking::place_first(rows, line as usize, period);
+            OpenAnswer::Booked(Start(0))
+        }
+        Offer::At(spot) => book_at(rows, line as usize, period, spot),
     }
-    if period.0 == 0 {
-        return OpenAnswer::Refused(2);
-    }
-    if 4095 < period.0 {
-        return OpenAnswer::Refused(2);
-    }
-    let at = line as usize;
-    if !paths::is_closed(rows, at) {
-        return OpenAnswer::Refused(3);
-    }
-    book_line(rows, at, period)
 }
