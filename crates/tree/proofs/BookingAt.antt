@@ -133,11 +133,11 @@ pub record NewLine (L p m u : ℕ) (t : Tree) : Type 0 where
   pub stands : Stands L t period u
 
 module _ (L p i : ℕ) where
-  root-fit : (m w : ℕ) (f : ℕ → Tree) → FitIn p (m * steps 0 0 (node w f)) i (at-digits 0 0 (node w f)) → Fit p m w f i
+  pub root-fit : (m w : ℕ) (f : ℕ → Tree) → FitIn p (m * steps 0 0 (node w f)) i (at-digits 0 0 (node w f)) → Fit p m w f i
   unfolding FitIn at-digits way-by-digits product
   root-fit m w f h = rw mul-one at h
 
-  below-fit : (m w : ℕ) (f : ℕ → Tree) (l r : ℕ) → FitIn p (m * steps (suc l) r (node w f)) i (at-digits (suc l) r (node w f)) →
+  pub below-fit : (m w : ℕ) (f : ℕ → Tree) (l r : ℕ) → FitIn p (m * steps (suc l) r (node w f)) i (at-digits (suc l) r (node w f)) →
       FitIn p (m * w * steps l (r / w) (f (r % w))) i (at-digits l (r / w) (f (r % w)))
   unfolding at-digits way-by-digits product
   below-fit m w f l r h = rw (mul-assoc m w (steps l (r / w) (f (r % w)))) h

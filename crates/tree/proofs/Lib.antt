@@ -25,6 +25,8 @@ pub mod Closing
 -- How large a tree can be
 pub mod Totals
 pub mod Depth
+-- Trials
+pub mod NodesAdded
 -- Demand 3
 pub mod Numbering
 pub mod Checks

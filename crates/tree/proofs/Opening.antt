@@ -70,7 +70,7 @@ pub record MayOpen (L p : ℕ) (t : Tree) : Type 0 where
   pub has-room : no-room p t ≡ false
 
 -- in a tree that is not empty, a candidate was chosen
-room-chosen : (p : ℕ) (t : Tree) → present t ≡ true → no-room p t ≡ false → (a : Place) × (chosen p t ≡ some a)
+pub room-chosen : (p : ℕ) (t : Tree) → present t ≡ true → no-room p t ≡ false → (a : Place) × (chosen p t ≡ some a)
 unfolding no-room
 room-chosen p t here h = found-some (chosen p t) (not-false _ (rw here at h))
 

@@ -44,7 +44,7 @@ total-only (suc n) count k only =
       | no z ↦ omega (arith, total-only n count k only, only n z)
     ]
 
-total-plus : (n : ℕ) (a b : ℕ → ℕ) → total-below n (λ i. a i + b i) ≡ total-below n a + total-below n b
+pub total-plus : (n : ℕ) (a b : ℕ → ℕ) → total-below n (λ i. a i + b i) ≡ total-below n a + total-below n b
 unfolding total-below
 total-plus zero a b = refl
 total-plus (suc n) a b = omega (arith, total-plus n a b)
