@@ -27,6 +27,7 @@ pub mod Totals
 pub mod Depth
 -- Trials
 pub mod NodesAdded
+pub mod SplitWeights
 -- Demand 3
 pub mod Numbering
 pub mod Checks
