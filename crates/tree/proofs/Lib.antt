@@ -28,6 +28,7 @@ pub mod Depth
 -- Trials
 pub mod NodesAdded
 pub mod SplitWeights
+pub mod Trials
 -- Demand 3
 pub mod Numbering
 pub mod Checks
