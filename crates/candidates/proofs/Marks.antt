@@ -9,11 +9,11 @@ use mathlib.Core.Bool.{Bool, true, false, _||_, or-true, or-false}
 use mathlib.Core.List.{List}
 use lib.Bits.{bitOr, or-shr, or-mod, or-zero-l, or-zero-r, or-self}
 use lib.Dec.{eqb, ltb}
-use lib.ListN.{length, getD, set, replicate}
+use lib.ListN.{length, getD, set, replicate, length-set}
 use lib.Pow.{pow-pos, pow-lt, pow-add}
 use lib.Seq.{getD-set-same, getD-set-other}
 use borrow.Author.Tests.{eq-eqb, ne-eqb, ltb-true, ltb-false}
-use Rattle.candidates.specs.Edges.{marked}
+use Rattle.candidates.specs.Edges.{marked, with-mark}
 
 -- Bits
 
@@ -60,8 +60,12 @@ unfolding marked
 none-marked e = rw (zero-word 64 (e / 64), zero-div (2 ^ (e % 64)))
 
 -- `1 << (e % 64)` in a word of 64 bits
-pub bit-of-edge : (e : ℕ) → 1 * 2 ^ (e % 64) % 2 ^ 64 ≡ 2 ^ (e % 64)
+bit-of-edge : (e : ℕ) → 1 * 2 ^ (e % 64) % 2 ^ 64 ≡ 2 ^ (e % 64)
 bit-of-edge e = rw (one-mul (2 ^ (e % 64))) (mod-eq-of-lt (pow-lt (mod-lt e (omega arith))))
+
+pub shifted-mark : (words : List ℕ) (e : ℕ) → set words (e / 64) (bitOr (getD words (e / 64) 0) (1 * 2 ^ (e % 64) % 2 ^ 64)) ≡ with-mark words e
+unfolding with-mark
+shifted-mark words e = ap (λ (bit : ℕ). set words (e / 64) (bitOr (getD words (e / 64) 0) bit)) (bit-of-edge e)
 
 -- two edges of one word are the same where their bits are
 same-place : (e k : ℕ) → k / 64 ≡ e / 64 → eqb (e % 64) (k % 64) ≡ eqb e k
@@ -71,10 +75,13 @@ same-place e k one-word =
       | no other ↦ ne-eqb (e % 64) (k % 64) other ∙ sym (ne-eqb e k (λ same. other (ap (λ (n : ℕ). n % 64) same)))
     ]
 
+pub with-mark-length : (words : List ℕ) (e : ℕ) → length (with-mark words e) ≡ length words
+unfolding with-mark
+with-mark-length words e = length-set words (e / 64) _
+
 -- with the bit of edge e set, that edge is marked as well
-pub marked-more : (words : List ℕ) (e : ℕ) → e / 64 < length words → (k : ℕ) →
-    marked (set words (e / 64) (bitOr (getD words (e / 64) 0) (2 ^ (e % 64)))) k ≡ (marked words k || eqb e k)
-unfolding marked
+pub marked-more : (words : List ℕ) (e : ℕ) → e / 64 < length words → (k : ℕ) → marked (with-mark words e) k ≡ (marked words k || eqb e k)
+unfolding marked with-mark
 marked-more words e inside k =
     elim (ℕ-discrete (k / 64) (e / 64)) [
       | yes one-word ↦

@@ -1,15 +1,14 @@
 -- The edges that lines take at a node which no earlier line goes through (`FirstThrough`, specs/Edges.antt), and the invariant of the loop that marks them.
 -- Assumes nothing.
-use Prim.Native.Nat.{ℕ, _+_, _*_, _/_, _%_, _^_, _<_, _≤_}
+use Prim.Native.Nat.{ℕ, _+_, _<_, _≤_}
 use native.Mathlib.Omega.{arith}
 use native.Mathlib.Nat.{eq-or-lt-of-le}
 use mathlib.Core.Path.{_≡_, refl, sym, _∙_, ap}
 use mathlib.Core.Logic.{inl, inr}
 use mathlib.Core.Bool.{Bool, true, false, _&&_, true≢false, or-false}
 use mathlib.Core.List.{List}
-use lib.Bits.{bitOr}
 use lib.Dec.{eqb, ltb}
-use lib.ListN.{length, getD, set, replicate, length-set}
+use lib.ListN.{length, replicate}
 use borrow.Author.Tests.{ltb-true, ltb-false}
 use Rattle.tree.specs.declared.Row.{Row}
 use Rattle.tree.specs.Search.{some-below}
@@ -22,9 +21,9 @@ use Rattle.paths.proofs.PathNumbers.{edge-below-weight, weight-small}
 use Rattle.paths.proofs.PathRows.{row-in-path}
 use Rattle.paths.proofs.SameNode.{same-node-none, same-node-comm, same-node-goes-on}
 use Rattle.candidates.specs.Answers.{seen-earlier}
-use Rattle.candidates.specs.Edges.{marked, edge-present, MarksPresent, FirstThrough}
+use Rattle.candidates.specs.Edges.{marked, with-mark, edge-present, MarksPresent, FirstThrough}
 use Rattle.candidates.proofs.SeenEarlier.{lines-through-one}
-use Rattle.candidates.proofs.Marks.{none-marked, bit-of-edge, marked-more}
+use Rattle.candidates.proofs.Marks.{none-marked, with-mark-length, marked-more}
 
 -- The lines through the node
 
@@ -95,12 +94,11 @@ module _ {rows : List ℕ} {end L l : ℕ} (first : FirstThrough rows end L l) w
       pub edge-small : e < 4096
       edge-small = omega (arith, edge-is, edge-of-node first below meets, node-weight-small first)
 
-      -- the word with `1 << (e % 64)`
-      pub marking-through : Marking rows L l (set marks (e / 64) (bitOr (getD marks (e / 64) 0) (1 * 2 ^ (e % 64) % 2 ^ 64))) (M + 1)
-      marking-through = record {
+      pub marking-through : {after : List ℕ} → after ≡ with-mark marks e → Marking rows L l after (M + 1)
+      marking-through written = rw written record {
         within = omega arith;
-        words = length-set marks (e / 64) _ ∙ marking .words;
-        each = λ k. rw (bit-of-edge e, marked-more marks e (omega (arith, edge-small, marking .words)) k, marking .each k, some-below-more M (takes-edge rows L l k), meets, edge-is);
+        words = with-mark-length marks e ∙ marking .words;
+        each = λ k. rw (marked-more marks e (omega (arith, edge-small, marking .words)) k, marking .each k, some-below-more M (takes-edge rows L l k), meets, edge-is);
       }
 
 -- the lines from `end` on are closed and take no edge

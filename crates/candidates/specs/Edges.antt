@@ -4,8 +4,9 @@ use Prim.Native.Nat.{ℕ, suc, _/_, _%_, _^_, _<_, _≤_}
 use mathlib.Core.Path.{_≡_}
 use mathlib.Core.Bool.{Bool, true, false}
 use mathlib.Core.List.{List}
+use lib.Bits.{bitOr}
 use lib.Dec.{eqb}
-use lib.ListN.{length, getD}
+use lib.ListN.{length, getD, set}
 use Rattle.tree.specs.declared.Row.{Row}
 use Rattle.tree.specs.Search.{found}
 use Rattle.tree.specs.Record.{path-at, no-rows, legal}
@@ -15,6 +16,10 @@ use Rattle.candidates.specs.Answers.{seen-earlier}
 -- edge e is marked: bit e % 64 of word e / 64 is set
 unfoldable pub marked : List ℕ → ℕ → Bool
 marked words e = eqb (getD words (e / 64) 0 / 2 ^ (e % 64) % 2) 1
+
+-- the words with edge e marked as well: the bit is set by an or
+unfoldable pub with-mark : List ℕ → ℕ → List ℕ
+with-mark words e = set words (e / 64) (bitOr (getD words (e / 64) 0) (2 ^ (e % 64)))
 
 -- edge e of the node at level l of path ps is present: a line takes it
 unfoldable pub edge-present : Family → List Row → ℕ → ℕ → Bool

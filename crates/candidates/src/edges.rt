@@ -3,17 +3,25 @@ ghost use mathlib.Core.Path.{_≡_};
 ghost use Prim.Native.Nat.{_<_};
 ghost use lib.ListN.{replicate};
 ghost use Rattle.tree.specs.Record.{path-at};
-ghost use Rattle.candidates.specs.Edges.{marked, FirstThrough, MarksPresent};
+ghost use Rattle.candidates.specs.Edges.{marked, with-mark, FirstThrough, MarksPresent};
 use paths::edge;
 use paths::same_node;
 
 // The edge is marked.
-pub(crate) fn is_marked(marks: &[u64; 64], edge: usize) -> bool
+pub fn is_marked(marks: &[u64; 64], edge: usize) -> bool
     requires { ⌜ edge < 4096 ⌝ }
     ensures { λ r. ⌜ r ≡ marked (now (marks .entry)) edge ⌝ }
 {
     let word = marks[edge / 64];
     (word >> (edge % 64)) % 2 == 1
+}
+
+// Marks an edge.
+pub fn mark(marks: &mut [u64; 64], edge: usize)
+    requires { ⌜ edge < 4096 ⌝ }
+    ensures { λ _. ⌜ now (marks .exit) ≡ with-mark (now (marks .entry)) edge ⌝ }
+{
+    marks[edge / 64] = marks[edge / 64] | (1 << (edge % 64));
 }
 
 // Marks the edges of a node that lines take: one pass over the lines, from the first whose path goes through the node up to the last open one.
@@ -29,8 +37,7 @@ pub(crate) fn mark_present(
 {
     for other in line..end {
         if same_node(rows, line, other, level) {
-            let taken = edge(rows, other, level) as usize;
-            marks[taken / 64] = marks[taken / 64] | (1 << (taken % 64));
+            mark(marks, edge(rows, other, level) as usize);
         }
     }
 }

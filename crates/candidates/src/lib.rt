@@ -16,7 +16,7 @@ use paths::weight;
 use tree::Period;
 use tree::Start;
 
-mod edges;
+pub mod edges;
 
 // What the search for a class finds: the smallest free one, or none.
 pub enum Class {

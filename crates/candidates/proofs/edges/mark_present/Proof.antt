@@ -26,34 +26,19 @@ same-node-requires c κs =
 
 edge-requires : tie.Need-edge-requires Inv-loop μ-loop
 edge-requires c κs =
-    let start = c .before .before .before .before in
+    let start = c .before .before .before .before .before in
     omega (arith, within-path (now (start .args .rows)) (start .args .line) (start .pre .0 .on-path))
 
+cast-mark : tie.Need-cast-mark Inv-loop μ-loop
+cast-mark c = search needs
+
 -- the edge that was read is one of the node's, and so below 4,096
-word-in-range : tie.Need-element-copy-out-marks Inv-loop μ-loop
-word-in-range c =
-    let through = c .before in
+mark-requires : tie.Need-mark-requires Inv-loop μ-loop
+mark-requires c κs =
+    let through = c .before .before in
     let in-loop = through .before .before in
     let start = in-loop .before .before in
-    omega (arith, edge-small (start .pre .0) (in-loop .before .loop .inv) (omega (arith, in-loop .loop-test .taken, start .pre .0 .lines .within)) (through .before .same-node .ensures) (through .if1 .taken) (c .edge .ensures))
-
-cast-taken : tie.Need-cast-taken Inv-loop μ-loop
-cast-taken c = search needs
-
-mul-marks : tie.Need-mul-marks Inv-loop μ-loop
-mul-marks c = search needs
-
-element-copy-out-marks : tie.Need-element-copy-out-marks Inv-loop μ-loop
-element-copy-out-marks c = word-in-range c
-
-shl-marks : tie.Need-shl-marks Inv-loop μ-loop
-shl-marks c = search needs
-
-mul-marks-2 : tie.Need-mul-marks-2 Inv-loop μ-loop
-mul-marks-2 c = search needs
-
-element-write-marks : tie.Need-element-write-marks Inv-loop μ-loop
-element-write-marks c = word-in-range (c .before)
+    edge-small (start .pre .0) (in-loop .before .loop .inv) (omega (arith, in-loop .loop-test .taken, start .pre .0 .lines .within)) (through .before .same-node .ensures) (through .if1 .taken) (c .edge .ensures)
 
 add-other : tie.Need-add-other Inv-loop μ-loop
 add-other c = search needs
@@ -68,8 +53,8 @@ loop-again c =
     let start = in-loop .before .before in
     ⊎-elim
     (λ way.
-    rw (way .3)
-    (marking-through (start .pre .0) (in-loop .before .loop .inv) (omega (arith, in-loop .loop-test .taken, start .pre .0 .lines .within)) (after-test .same-node .ensures) (way .0 .taken) (way .1 .ensures)))
+    rw (way .4)
+    (marking-through (start .pre .0) (in-loop .before .loop .inv) (omega (arith, in-loop .loop-test .taken, start .pre .0 .lines .within)) (after-test .same-node .ensures) (way .0 .taken) (way .2 .ensures) (way .3 .ensures)))
     (λ way. rw (way .1) (marking-apart (start .pre .0) (in-loop .before .loop .inv) (omega (arith, in-loop .loop-test .taken, start .pre .0 .lines .within)) (after-test .same-node .ensures) (way .0 .left)))
     (c .if1 .came)
 
@@ -85,12 +70,8 @@ mark-present-spec =
     loop-holds
     same-node-requires
     edge-requires
-    cast-taken
-    mul-marks
-    element-copy-out-marks
-    shl-marks
-    mul-marks-2
-    element-write-marks
+    cast-mark
+    mark-requires
     add-other
     loop-less
     loop-again
