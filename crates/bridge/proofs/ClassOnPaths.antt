@@ -103,7 +103,7 @@ module _ (t : Tree) (legal : Legal t) (family : Family) (paths : PathsOf t famil
       some-below-at 64 _ (through .line) (through .line-below)
       (rw (rows, through-same-node M t l (family M) standing long weight (x .0) through, through .row-is) (eq-eqb (x .0 % d) i (x .2)))
 
-  class-free-is : (d i : ℕ) → not (class-taken family (family M) l d i) ≡ free d weight (here .edges) i
+  pub class-free-is : (d i : ℕ) → not (class-taken family (family M) l d i) ≡ free d weight (here .edges) i
   class-free-is d i = by-tests (class-taken family (family M) l d i) (free d weight (here .edges) i) refl refl
     where
       by-tests : (b c : Bool) → class-taken family (family M) l d i ≡ b → free d weight (here .edges) i ≡ c → not b ≡ c

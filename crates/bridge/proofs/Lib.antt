@@ -25,6 +25,7 @@ pub mod LegalPaths
 pub mod ClosedRecord
 pub mod RecordRoundTrip
 pub mod BookedRecord
+pub mod TrialOnPaths
 pub mod FirstRecord
 pub mod SpotFacts
 pub mod CallsOnRecords

@@ -38,7 +38,7 @@ use Rattle.lines.specs.Offers.{Searched, Offered}
 -- What is offered
 
 -- the lines from 0 on are closed
-none-open : {rows : List ℕ} → ClosedFrom rows 0 → AllClosed rows
+pub none-open : {rows : List ℕ} → ClosedFrom rows 0 → AllClosed rows
 unfolding AllClosed
 none-open closed M below = closed .closed M (omega arith) below
 

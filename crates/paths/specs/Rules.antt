@@ -9,10 +9,11 @@ use lib.Dec.{eqb, ltb}
 use lib.ListN.{length, getD, take, drop}
 use Rattle.tree.specs.declared.Row.{Row}
 use Rattle.tree.specs.Numbers.{divides}
-use Rattle.tree.specs.Search.{if_then_else_, smallest, some-below}
+use Rattle.tree.specs.Search.{if_then_else_, smallest, some-below, count-below}
 use Rattle.tree.specs.Tree.{row, product, sum, Place}
 use Rattle.tree.specs.Opening.{divisor, before}
 use Rattle.tree.specs.Asking.{rows-11}
+use Rattle.tree.specs.Trial.{Trial}
 use Rattle.tree.specs.Record.{path-at, no-rows, numbers}
 
 -- the paths of the lines, by line number
@@ -104,6 +105,23 @@ booked-at rows L p s =
     let ps = path-at rows (s .line) in
     let split = if ltb (s .divisor) (row-of (s .level) ps .weight) then split-lines rows ps (s .level) (s .divisor) 64 else rows in
     set-line split L (booked-path (take (s .level) ps) (s .divisor) (s .class) (p / (s .step * s .divisor)))
+
+-- A trial, over the paths
+
+-- how many classes modulo d lines take at the node at level l of path ps
+unfoldable pub classes-taken : Family → List Row → ℕ → ℕ → ℕ
+classes-taken family ps l d = count-below d (class-taken family ps l d)
+
+-- what a booking of period p at a spot brings about: a node for each class taken where the node is split, and one of weight q unless q is 1
+unfoldable pub trial-at : Family → ℕ → Spot → Trial
+trial-at family p s =
+    let ps = family (s .line) in
+    let is-split = ltb (s .divisor) (row-of (s .level) ps .weight) in
+    record {
+      start = s .offset + s .class * s .step;
+      added = (if is-split then classes-taken family ps (s .level) (s .divisor) else 0) + (if eqb (p / (s .step * s .divisor)) 1 then 0 else 1);
+      split = is-split;
+    }
 
 -- Asking, over the paths
 

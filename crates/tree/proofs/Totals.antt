@@ -102,6 +102,11 @@ count-at-most n test = omega (arith, total-at-most n (λ i. if test i then 1 els
     at-most-1 true = omega arith
     at-most-1 false = omega arith
 
+-- a test that nothing passes
+pub count-none : (n : ℕ) (test : ℕ → Bool) → ((i : ℕ) → test i ≡ false) → count-below n test ≡ 0
+unfolding count-below
+count-none n test fails = omega (arith, total-at-most n (λ i. if test i then 1 else 0) 0 (λ i below. rw (fails i) (omega arith)))
+
 -- a test that passes one number more
 pub count-one-more : (n : ℕ) (test : ℕ → Bool) (k : ℕ) → k < n → test k ≡ false → count-below n (λ i. test i || eqb k i) ≡ suc (count-below n test)
 unfolding count-below

@@ -1,0 +1,3 @@
+pub mod ClassesTaken
+pub mod TrialAt
+pub mod TrialLine
