@@ -13,27 +13,14 @@ use Rattle.tree.specs.Lists.{Entry, calls-of, reference-from, reference, answer
 use Rattle.tree.specs.Demand3.{Demand3}
 use Rattle.tree.specs.Record.{treeOf, recordOf}
 use Rattle.tree.proofs.Demand3.{demand-3}
-use Rattle.bridge.proofs.TreeOfRecord.{treeOf-legal}
-use Rattle.bridge.proofs.RecordRoundTrip.{record-has-tree}
-use Rattle.bridge.proofs.CarriedLegal.{carried-out-legal}
 use Rattle.plan.specs.declared.ask.OwnerAnswer.{OwnerAnswer}
 use Rattle.plan.specs.declared.ask.OwnerAnswer.the-variants.{Line, Idle}
 use Rattle.plan.specs.Ask.{owner-answer}
 use Rattle.plan.specs.Meets.{empty-plan, plan-unless, plan-after, Meets}
-use Rattle.plan.proofs.Changes.{empty-tree}
+use Rattle.plan.proofs.Changes.{empty-tree, plan-after-tree}
 use Rattle.history.specs.Ran.{handed-on, Ran, Demand3OfCalls, NamesOwner, OwnerOfCalls}
 
 -- One call
-
--- the plan after a call has the tree that the rules leave
-plan-after-tree : (c : Call) (plan : Plan) → treeOf (plan-after c plan) ≡ after c (treeOf plan)
-unfolding plan-after plan-unless after tree-unless
-plan-after-tree c plan = by-refusal (refusal c (treeOf plan)) refl
-  where
-    by-refusal : (o : Option ℕ) → refusal c (treeOf plan) ≡ o →
-        treeOf (plan-unless o plan (recordOf (carried-out c (treeOf plan)))) ≡ tree-unless o (treeOf plan) (carried-out c (treeOf plan))
-    by-refusal none e = record-has-tree (carried-out c (treeOf plan)) (carried-out-legal c (treeOf plan) (treeOf-legal plan) e)
-    by-refusal (some n) e = refl
 
 -- the plan that a call returns is the one to hand on: after a refusal it is the one given
 pub returned-is-handed-on : (c : Call) (plan : Plan) (a : Answer) (returned : Plan) → Meets c plan a returned → handed-on a plan returned ≡ returned

@@ -13,13 +13,14 @@ use Rattle.tree.specs.Search.{found}
 use Rattle.tree.specs.Tree.{Tree, nothing, path, is-open, path-of}
 use Rattle.tree.specs.Shape.{Legal}
 use Rattle.tree.specs.Asking.{rows-11}
-use Rattle.tree.specs.Calls.{Call, open-line, close-line, Answer, booked, refused, refusal, reply, carried-out, answer-unless, answer}
+use Rattle.tree.specs.Calls.{Call, open-line, close-line, Answer, booked, refused, refusal, reply, carried-out, answer-unless, tree-unless, answer, after}
 use Rattle.tree.specs.Record.{legal, treeOf, numbers, numbers-below, recordOf}
 use Rattle.tree.proofs.Checks.{line-refused-4}
 use Rattle.paths.specs.declared.Found.the-variants.{Nothing}
 use Rattle.bridge.specs.Rows.{tree-of, rows-unless, rows-after, CarriedOut}
-use Rattle.bridge.proofs.TreeOfRecord.{treeOf-illegal}
+use Rattle.bridge.proofs.TreeOfRecord.{treeOf-legal, treeOf-illegal}
 use Rattle.bridge.proofs.RecordRoundTrip.{record-legal, record-has-tree}
+use Rattle.bridge.proofs.CarriedLegal.{carried-out-legal}
 use Rattle.bridge.proofs.CallsOnRecords.{refused-on}
 use Rattle.tree.specs.declared.Start.{Start}
 use Rattle.lines.specs.declared.OpenAnswer.{OpenAnswer}
@@ -40,6 +41,16 @@ carried-meets c plan rows a h =
     by-refusal : (o : Option ℕ) → _≡_ {A = Plan} (record { rows = rows-unless o (plan .rows) (recordOf (carried-out c (treeOf plan)) .rows) }) (plan-unless o plan (recordOf (carried-out c (treeOf plan))))
     by-refusal (some n) = refl
     by-refusal none = refl
+
+-- the plan after a call has the tree that the rules leave
+pub plan-after-tree : (c : Call) (plan : Plan) → treeOf (plan-after c plan) ≡ after c (treeOf plan)
+unfolding plan-after plan-unless after tree-unless
+plan-after-tree c plan = by-refusal (refusal c (treeOf plan)) refl
+  where
+    by-refusal : (o : Option ℕ) → refusal c (treeOf plan) ≡ o →
+        treeOf (plan-unless o plan (recordOf (carried-out c (treeOf plan)))) ≡ tree-unless o (treeOf plan) (carried-out c (treeOf plan))
+    by-refusal none e = record-has-tree (carried-out c (treeOf plan)) (carried-out-legal c (treeOf plan) (treeOf-legal plan) e)
+    by-refusal (some n) e = refl
 
 -- The empty plan
 
@@ -71,7 +82,7 @@ module _ (rows : List ℕ) (not-legal : legal rows ≡ false) where
   unfolding tree-of
   no-tree = treeOf-illegal (record { rows = rows }) not-legal
 
-  same-tree : tree-of (empty-plan .rows) ≡ tree-of rows
+  pub same-tree : tree-of (empty-plan .rows) ≡ tree-of rows
   unfolding tree-of
   same-tree = empty-tree ∙ sym no-tree
 

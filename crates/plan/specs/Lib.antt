@@ -2,3 +2,4 @@ pub mod Meets
 pub mod Lookup
 pub mod Ask
 pub mod Walker
+pub mod Tried

@@ -2,4 +2,5 @@
 pub mod ask;
 pub mod change;
 mod lookup;
+pub mod trial;
 pub mod walker;

@@ -29,9 +29,11 @@ unfolding Searched spot-of
 returns-2 c =
     let searched = c .before .before in
     let some-open = searched .before in
-    let ended = some-open .before in
-    (refl, no-room-found (ended .lines-end .ensures) _ (ended .before .pre) (some-open .if1 .left)
-    (sym (searched .best-candidate .ensures) ∙ ap spot-of (c .enum-told .given .1)))
+    let ended = some-open .before in (
+      refl,
+      no-room-found (ended .lines-end .ensures) _ (ended .before .pre) (some-open .if1 .left)
+          (sym (searched .best-candidate .ensures) ∙ ap spot-of (c .enum-told .given .1)),
+    )
 
 returns-3 : tie.Need-returns-3
 unfolding Searched spot-of

@@ -1,0 +1,37 @@
+-- A trial on a record that is no tree, and an open after its trial.
+-- Assumes nothing.
+use Prim.Native.Nat.{ℕ}
+use mathlib.Core.Path.{_≡_, _∙_, ap}
+use mathlib.Core.Bool.{false}
+use mathlib.Core.List.{List}
+use Rattle.tree.specs.declared.Plan.{Plan}
+use Rattle.tree.specs.Tree.{Tree}
+use Rattle.tree.specs.Calls.{open-line, Outcome}
+use Rattle.tree.specs.Trial.{Trial, trial-outcome}
+use Rattle.tree.specs.Record.{legal, treeOf}
+use Rattle.tree.proofs.Trials.{open-brings-about}
+use Rattle.bridge.specs.Rows.{tree-of}
+use Rattle.bridge.proofs.TreeOfRecord.{treeOf-legal}
+use Rattle.lines.specs.declared.OpenAnswer.{OpenAnswer}
+use Rattle.lines.specs.Answers.{open-answer}
+use Rattle.trials.specs.declared.TrialAnswer.{TrialAnswer}
+use Rattle.trials.specs.Answers.{trial-answer}
+use Rattle.plan.specs.Meets.{empty-plan, Meets}
+use Rattle.plan.specs.Tried.{TrialKept}
+use Rattle.plan.proofs.Changes.{plan-after-tree, same-tree}
+
+-- a trial that was made in the empty plan instead
+pub trial-in-empty : (rows : List ℕ) (L p : ℕ) (e : Plan) (o : Outcome Trial) → legal rows ≡ false → e ≡ empty-plan → o ≡ trial-outcome L p (tree-of (e .rows)) → o ≡ trial-outcome L p (tree-of rows)
+trial-in-empty rows L p e o not-legal empty told =
+    told ∙ ap (λ (plan : Plan). trial-outcome L p (tree-of (plan .rows))) empty ∙ ap (trial-outcome L p) (same-tree rows not-legal)
+
+-- the open brings about what the trial said
+pub trial-kept : (L p : ℕ) (before : Plan) (told : TrialAnswer) (a : OpenAnswer) (after : Plan) →
+    trial-answer told ≡ trial-outcome L p (treeOf before) → Meets (open-line L p) before (open-answer a) after → TrialKept L p before told a after
+trial-kept L p before told a after told-is opened-is =
+    record {
+      told-is = told-is;
+      opened-is = opened-is;
+      brought-about =
+          rw (told-is, opened-is .answer-is, opened-is .plan-is, plan-after-tree (open-line L p) before) (open-brings-about L p (treeOf before) (treeOf-legal before));
+    }
