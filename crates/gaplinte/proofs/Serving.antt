@@ -14,8 +14,9 @@ use Rattle.tree.specs.Tree.{Tree}
 use Rattle.tree.specs.Asking.{owner}
 use Rattle.tree.specs.Refusals.{first-refusal, line-above-63}
 use Rattle.tree.specs.Calls.{Call, open-line, close-line, Answer, Outcome, gives, refuses, gives-unless, turns-outcome}
+use Rattle.tree.specs.Trial.{Trial, trial-outcome}
 use Rattle.bridge.specs.Rows.{plan-of, tree-of, CarriedOut}
-use Rattle.bridge.proofs.PeriodAsked.{period-stands-for}
+use Rattle.bridge.proofs.PeriodAsked.{period-stands-for, trial-stands-for}
 use Rattle.lines.specs.declared.OpenAnswer.{OpenAnswer}
 use Rattle.lines.specs.declared.CloseAnswer.{CloseAnswer}
 use Rattle.lines.specs.Answers.{open-answer, close-answer}
@@ -30,7 +31,7 @@ use Rattle.orders.specs.declared.Bytes.{Bytes}
 use Rattle.lists.specs.declared.ListAnswer.{ListAnswer}
 use Rattle.lists.specs.Runs.{refusal-in, ListRan}
 use Rattle.gaplinte.specs.Answer.{answer-number, IsAnswer, zero-value, numbers-or}
-use Rattle.gaplinte.specs.Served.{change-outcome, ChangeServed, line-or-64, owner-outcome, line-number, place-of, place-numbers, WalkServed, list-outcome, ListServed}
+use Rattle.gaplinte.specs.Served.{change-outcome, ChangeServed, line-or-64, owner-outcome, tried-numbers, TrialServed, line-number, place-of, place-numbers, WalkServed, list-outcome, ListServed}
 use Rattle.gaplinte.specs.OrdersServed.{byte-numbers, PackServed}
 use Rattle.gaplinte.proofs.Answering.{answer-read-back}
 
@@ -83,6 +84,23 @@ module _ {A : Type 0} (numbers : A → List ℕ) (lent : List ℕ) (o : Outcome 
   pub left-as-found : (n : ℕ) → refuses n ≡ o → lent ≡ numbers-or numbers lent o
   unfolding numbers-or
   left-as-found n refused = ap (numbers-or numbers lent) refused
+
+-- A trial
+
+-- q is the period as open takes it
+module _ (rows : List ℕ) (L p q : ℕ) (lent : List ℕ) (asked : q ≡ (if ltb 4095 p then 4096 else p)) where
+  same-trial : trial-outcome L q (tree-of rows) ≡ trial-outcome L p (tree-of rows)
+  same-trial = rw asked (trial-stands-for L p (tree-of rows))
+
+  pub trial-served : (told : Trial) (after : List ℕ) (r : ℤ) → gives told ≡ trial-outcome L q (tree-of rows) → IsAnswer (gives 0) r → after ≡ tried-numbers told → TrialServed rows L p lent after (toZ w64 (ofZ w64 r))
+  trial-served told after r tried is are =
+      let given = tried ∙ same-trial in
+      record { answer-is = zero-told _ r told given is; tried-is = written tried-numbers lent _ told after given are }
+
+  pub trial-not-served : (n : ℕ) (r : ℤ) → refuses n ≡ trial-outcome L q (tree-of rows) → IsAnswer (refuses n) r → TrialServed rows L p lent lent (toZ w64 (ofZ w64 r))
+  trial-not-served n r tried is =
+      let refused = tried ∙ same-trial in
+      record { answer-is = refusal-told _ r n refused is; tried-is = left-as-found tried-numbers lent _ n refused }
 
 -- The walker
 

@@ -18,6 +18,7 @@ use Rattle.tree.specs.Opening.{opened, start-given}
 use Rattle.tree.specs.Asking.{owner}
 use Rattle.tree.specs.Refusals.{first-refusal, line-above-63, line-refusal}
 use Rattle.tree.specs.Calls.{Call, open-line, close-line, refusal, reply, answer-unless, answer, Outcome, gives, refuses, gives-unless, show-outcome, turns-outcome}
+use Rattle.tree.specs.Trial.{trial-outcome}
 use Rattle.tree.specs.Record.{legal}
 use Rattle.tree.proofs.Standing.{start-below-period}
 use Rattle.tree.proofs.Checks.{open-may}
@@ -32,7 +33,7 @@ use Rattle.orders.specs.Reading.{reading}
 use Rattle.lists.specs.Lists.{length-refused, room-refused, list-refusal}
 use Rattle.lists.proofs.AnswersFit.{Small, small-if, refusal-small, reading-small}
 use Rattle.gaplinte.specs.Answer.{answer-number, zero-value, outcome-told, InRange, Tells, narrowed}
-use Rattle.gaplinte.specs.Served.{change-outcome, ChangeServed, line-or-64, owner-outcome, tree-outcome, ShowServed, line-number, place-of, WalkServed, list-outcome, ListServed}
+use Rattle.gaplinte.specs.Served.{change-outcome, ChangeServed, line-or-64, owner-outcome, tree-outcome, ShowServed, TrialServed, line-number, place-of, WalkServed, list-outcome, ListServed}
 use Rattle.gaplinte.specs.OrdersServed.{bytes-in, PackServed, ReadServed}
 use Rattle.gaplinte.proofs.ValuesBelow.{owner-below-64, turns-at-most}
 
@@ -161,6 +162,10 @@ turns-tells L a N t r below is = tells _ r (value-in-range _ _ (line-small L t) 
 pub show-tells : (rows : List ℕ) (L : ℕ) (before after : List ℕ) (r : ℤ) → ShowServed rows L before after r → Tells (zero-value (show-outcome L (tree-of rows))) r
 unfolding show-outcome
 show-tells rows L before after r served = tells _ r (zero-in-range _ _ (line-small L _)) (served .answer-is)
+
+pub trial-tells : (rows : List ℕ) (L p : ℕ) (before after : List ℕ) (r : ℤ) → TrialServed rows L p before after r → Tells (zero-value (trial-outcome L p (tree-of rows))) r
+unfolding trial-outcome refusal
+trial-tells rows L p before after r served = tells _ r (zero-in-range _ _ (refusal-small (open-line L p) _)) (served .answer-is)
 
 pub walk-tells : (rows before after : List ℕ) (r : ℤ) → WalkServed rows before after r → Tells (line-number (walk-outcome (place-of before) (tree-of rows))) r
 walk-tells rows before after r served = tells _ r (walk-in-range _ _ (legal-on-record rows)) (served .answer-is)

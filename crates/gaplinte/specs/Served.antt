@@ -9,6 +9,7 @@ use lib.ListN.{length, getD}
 use Rattle.tree.specs.Search.{if_then_else_}
 use Rattle.tree.specs.Asking.{owner, Shown}
 use Rattle.tree.specs.Calls.{Call, Answer, booked, done, refused, answer, Outcome, gives, refuses, gives-unless, show-outcome}
+use Rattle.tree.specs.Trial.{Trial, trial-outcome}
 use Rattle.tree.specs.Record.{legal, numbers}
 use Rattle.bridge.specs.Rows.{plan-of, tree-of, rows-after}
 use Rattle.plan.specs.declared.walker.WalkerPlace.{WalkerPlace}
@@ -57,6 +58,17 @@ shown-numbers s = s .period ∷ s .start ∷ numbers (s .rows)
 pub record ShowServed (rows : List ℕ) (L : ℕ) (before after : List ℕ) (r : ℤ) : Type 0 where
   pub answer-is : r ≡ answer-number (zero-value (show-outcome L (tree-of rows)))
   pub shown-is : after ≡ numbers-or shown-numbers before (show-outcome L (tree-of rows))
+
+-- A trial
+
+-- (Ask 3, 2) the numbers of what a trial gives: start, nodes added, and 1 where a node would be split, else 0
+unfoldable pub tried-numbers : Trial → List ℕ
+tried-numbers t = t .start ∷ t .added ∷ (if t .split then 1 else 0) ∷ []
+
+-- a trial by a lent record: its answer, and the 3 numbers lent, as found where the call is refused
+pub record TrialServed (rows : List ℕ) (L p : ℕ) (before after : List ℕ) (r : ℤ) : Type 0 where
+  pub answer-is : r ≡ answer-number (zero-value (trial-outcome L p (tree-of rows)))
+  pub tried-is : after ≡ numbers-or tried-numbers before (trial-outcome L p (tree-of rows))
 
 -- The walker
 

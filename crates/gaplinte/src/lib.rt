@@ -7,4 +7,5 @@ pub mod change;
 pub mod list;
 pub mod order;
 pub mod show;
+pub mod trial;
 pub mod walk;
