@@ -8,6 +8,7 @@ mod measure;
 mod numbers;
 mod plain;
 mod programs;
+mod trials;
 
 const RECORD: usize = 1408;
 const SEED: u64 = 4;
@@ -42,6 +43,7 @@ fn compare_and_measure() {
     std::fs::create_dir(&folder).expect("the folder is new");
     compare::compare_answers(&folder);
     measure::measure(&folder);
+    trials::measure_trials();
     std::fs::remove_dir_all(&folder).expect("the folder is this program's own");
 }
 
@@ -50,8 +52,9 @@ fn main() {
     match words.next().as_deref() {
         None => compare_and_measure(),
         Some("book") => plain::book::run().expect("standard input and output can be used"),
+        Some("trials") => trials::measure_trials(),
         Some("profile") => measure::profile(words),
         Some("list") => measure::write_list(words),
-        Some(word) => panic!("{word}: none of `book`, `profile` and `list`"),
+        Some(word) => panic!("{word}: none of `book`, `trials`, `profile` and `list`"),
     }
 }

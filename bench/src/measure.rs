@@ -18,7 +18,7 @@ pub const TOGETHER: usize = 100;
 const PROGRAM_REPETITIONS: usize = 40;
 
 /// What is measured once: a number of calls.
-type Task = Box<dyn FnMut()>;
+pub type Task = Box<dyn FnMut()>;
 
 fn owners_of(calls: Calls, rows: Record, rounds: Vec<u64>) -> Task {
     Box::new(move || {
@@ -107,7 +107,7 @@ const MEASURED: [Measured; 4] = [
 ];
 
 /// Nanoseconds of the fastest repetition of each of the two.
-fn best_of(repetitions: usize, mut tasks: [Task; 2]) -> [f64; 2] {
+pub fn best_of(repetitions: usize, mut tasks: [Task; 2]) -> [f64; 2] {
     let mut best = [f64::MAX; 2];
     for _ in 0..repetitions {
         for (least, task) in best.iter_mut().zip(&mut tasks) {

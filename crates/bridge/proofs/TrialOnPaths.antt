@@ -11,7 +11,7 @@ use Rattle.tree.specs.Tree.{Tree, node, present, sum, Place, at, way, step}
 use Rattle.tree.specs.Opening.{divisor, free}
 use Rattle.tree.specs.Trial.{Trial, is-split, split-in, trial}
 use Rattle.tree.specs.Record.{path-at, legal, treeOf}
-use Rattle.paths.specs.Rules.{Family, row-of, class-taken, classes-taken, Spot, place-of, trial-at}
+use Rattle.paths.specs.Rules.{Family, row-of, class-taken, classes-taken, own-nodes, Spot, place-of, trial-at}
 use Rattle.tree.proofs.Standing.{path-stands}
 use Rattle.tree.proofs.UnderEdge.{stands-present}
 use Rattle.tree.proofs.Opening.{MayOpen}
@@ -63,7 +63,7 @@ module _ (plan : Plan) (L p : ℕ) (s : Spot) (is-legal : legal (plan .rows) ≡
   split-is = rw (found-spot .chosen-is, found-spot .node .1, found-spot .divisor-is)
 
   added-is : trial-at family p s .added ≡ trial L p t .added
-  unfolding trial-at nodes-added-in nodes-added place-of
+  unfolding trial-at own-nodes nodes-added-in nodes-added place-of
   added-is =
       rw (trial-added L p t (place-of s) may here (found-spot .chosen-is), found-spot .node .1, classes-counted (s .divisor), found-spot .step-is, found-spot .divisor-is)
 

@@ -112,14 +112,18 @@ booked-at rows L p s =
 unfoldable pub classes-taken : Family → List Row → ℕ → ℕ → ℕ
 classes-taken family ps l d = count-below d (class-taken family ps l d)
 
--- what a booking of period p at a spot brings about: a node for each class taken where the node is split, and one of weight q unless q is 1
+-- the nodes of weight q that a line gets for itself
+unfoldable pub own-nodes : ℕ → ℕ
+own-nodes q = if eqb q 1 then 0 else 1
+
+-- what a booking of period p at a spot brings about: a node for each class taken where the node is split, and the line's own
 unfoldable pub trial-at : Family → ℕ → Spot → Trial
 trial-at family p s =
     let ps = family (s .line) in
     let is-split = ltb (s .divisor) (row-of (s .level) ps .weight) in
     record {
       start = s .offset + s .class * s .step;
-      added = (if is-split then classes-taken family ps (s .level) (s .divisor) else 0) + (if eqb (p / (s .step * s .divisor)) 1 then 0 else 1);
+      added = (if is-split then classes-taken family ps (s .level) (s .divisor) else 0) + own-nodes (p / (s .step * s .divisor));
       split = is-split;
     }
 

@@ -1,14 +1,16 @@
--- The joint table: document 01's marked cases A to I, without the printing, as calls with the answers that it marks; then five cases of our own.
+-- The joint table: document 01's marked cases A to I, without the printing, as calls with the answers that it marks; then seven cases of our own.
 -- Each case begins at the empty plan. The one proof over the whole table is in proofs/JointTable.antt.
 -- Assumes nothing.
 use Prim.Native.Nat.{ℕ}
+use mathlib.Core.Bool.{Bool, true, false}
 use mathlib.Core.List.{List, [], _∷_, _++_}
 use mathlib.Core.Option.{Option, none, some}
 use lib.ListN.{length}
 use Rattle.tree.specs.declared.Row.{Row}
-use Rattle.tree.specs.Tree.{Tree, row, path-of}
+use Rattle.tree.specs.Tree.{Tree, row, path-of, nodes}
 use Rattle.tree.specs.Asking.{owner, rows-11, Shown}
 use Rattle.tree.specs.Calls.{open-line, close-line, Answer, booked, done, refused, answer, after, Outcome, gives, refuses, show-outcome, turns-outcome}
+use Rattle.tree.specs.Trial.{Trial, trial-outcome}
 
 -- a call or a question with its answer
 pub data Step : Type 0 where
@@ -18,6 +20,8 @@ pub data Step : Type 0 where
   show : ℕ → Outcome Shown → Step
   turns-of : ℕ → ℕ → ℕ → Outcome ℕ → Step
   nodes-above : ℕ → ℕ → Step
+  nodes-in-all : ℕ → Step
+  tries : ℕ → ℕ → Outcome Trial → Step
 
 -- the same call or question, with the answer that the definitions give in tree t
 unfoldable pub answered : Tree → Step → Step
@@ -27,6 +31,8 @@ answered t (owner-of n a) = owner-of n (owner n t)
 answered t (show L a) = show L (show-outcome L t)
 answered t (turns-of L first N a) = turns-of L first N (turns-outcome L first N t)
 answered t (nodes-above L a) = nodes-above L (length (path-of L t))
+answered t (nodes-in-all a) = nodes-in-all (nodes t)
+answered t (tries L p a) = tries L p (trial-outcome L p t)
 
 -- the tree that it leaves
 unfoldable pub next : Tree → Step → Tree
@@ -36,6 +42,8 @@ next t (owner-of n a) = t
 next t (show L a) = t
 next t (turns-of L first N a) = t
 next t (nodes-above L a) = t
+next t (nodes-in-all a) = t
+next t (tries L p a) = t
 
 -- a whole case answered by the definitions, from tree t
 unfoldable pub replayed : Tree → List Step → List Step
@@ -50,6 +58,10 @@ left-by t (s ∷ ss) = left-by (next t s) ss
 -- a line's period, start and path as show answers them
 unfoldable pub shows : ℕ → ℕ → List Row → Outcome Shown
 shows p s rs = gives (record { period = p; start = s; rows = rows-11 rs })
+
+-- what a trial tells of an open that is not refused
+unfoldable pub fits : ℕ → ℕ → Bool → Outcome Trial
+fits s n is-split = gives (record { start = s; added = n; split = is-split })
 
 unfoldable pub bookings-A : List Step
 bookings-A =
@@ -185,6 +197,40 @@ step-2047 =
     ∷ owner-of 4094 (some 1)
     ∷ []
 
+-- ours: trials. In the empty plan the line gets the root; beside it the line alone, or a node of its own; a split adds a node for the class that is
+-- taken, and the line again none or one. The open brings about what was told. Then each refusal, of two that apply the earlier one.
+unfoldable pub tried-then-opened : List Step
+tried-then-opened =
+    tries 1 6 (fits 0 1 false)
+    ∷ opens 1 6 (booked 0)
+    ∷ nodes-in-all 1
+    ∷ tries 2 6 (fits 1 0 false)
+    ∷ tries 2 12 (fits 1 1 false)
+    ∷ tries 2 2 (fits 1 1 true)
+    ∷ tries 2 4 (fits 1 2 true)
+    ∷ opens 2 4 (booked 1)
+    ∷ nodes-in-all 3
+    ∷ tries 64 0 (refuses 1)
+    ∷ tries 1 0 (refuses 2)
+    ∷ tries 1 3 (refuses 3)
+    ∷ tries 3 3 (refuses 5)
+    ∷ []
+
+-- ours: the edges 0 and 3 are of one class modulo 3, so the split adds one node for both
+unfoldable pub two-edges-in-a-class : List Step
+two-edges-in-a-class =
+    opens 1 6 (booked 0)
+    ∷ opens 2 6 (booked 1)
+    ∷ opens 3 6 (booked 2)
+    ∷ opens 4 6 (booked 3)
+    ∷ closes 2 done
+    ∷ closes 3 done
+    ∷ nodes-in-all 1
+    ∷ tries 5 3 (fits 1 1 true)
+    ∷ opens 5 3 (booked 1)
+    ∷ nodes-in-all 2
+    ∷ []
+
 unfoldable pub cases : List (List Step)
 cases =
     case-A
@@ -201,4 +247,6 @@ cases =
     ∷ checks-in-sequence
     ∷ turns-from-a-round
     ∷ step-2047
+    ∷ tried-then-opened
+    ∷ two-edges-in-a-class
     ∷ []

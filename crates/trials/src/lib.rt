@@ -2,11 +2,9 @@
 ghost use mathlib.Core.Path.{_≡_};
 ghost use mathlib.Core.Bool.{true};
 ghost use Prim.Native.Nat.{_<_};
-ghost use lib.Dec.{eqb};
-ghost use Rattle.tree.specs.Search.{if_then_else_};
 ghost use Rattle.tree.specs.Record.{path-at, legal};
 ghost use Rattle.tree.specs.Trial.{trial-outcome};
-ghost use Rattle.paths.specs.Rules.{classes-taken, trial-at};
+ghost use Rattle.paths.specs.Rules.{classes-taken, own-nodes, trial-at};
 ghost use Rattle.candidates.specs.Answers.{spot-in};
 ghost use Rattle.bridge.specs.Rows.{tree-of};
 ghost use Rattle.trials.specs.Answers.{trial-told, trial-answer};
@@ -56,12 +54,12 @@ fn classes_taken(rows: &[u16; 1408], line: usize, level: usize, d: u16) -> u16
 
 // The nodes of weight q that the line gets for itself: one, unless q is 1.
 fn own_nodes(q: u16) -> u16
-    ensures { λ r. ⌜ r ≡ (if eqb q 1 then 0 else 1) ⌝ }
+    ensures { λ r. ⌜ r ≡ own-nodes q ⌝ }
 {
-    if q == 1 {
-        return 0;
+    if q != 1 {
+        return 1;
     }
-    1
+    0
 }
 
 // What a booking at the chosen candidate would bring about. A split adds a node for each class that lines take.

@@ -5,12 +5,12 @@ use mir.Syntax.{w16}
 use borrow.Author.Needs.{needs, fits-under}
 use borrow.Author.Tests.{not-true, not-false}
 use Rattle.paths.proofs.PathRows.{within-path}
-use Rattle.trials.proofs.TrialAt.{below-65536, factor-positive, factor-at-most, told-whole, told-split, added-at-most}
+use Rattle.trials.proofs.TrialAt.{below-65536, factor-positive, factor-at-most, told-whole, told-split, classes-at-most, own-at-most}
 use Rattle.trials.proofs.trial_at.Statement.{statement}
 use Rattle.trials.proofs.trial_at.Tie as tie
 
 start-in-requires : tie.Need-start-in-requires
-start-in-requires c κs = c .pre .start-in-range
+start-in-requires c κs = omega (arith, c .pre .start-in-range)
 
 mul-own-nodes : tie.Need-mul-own-nodes
 mul-own-nodes c = fits-under w16 _ _ (below-65536 _ (omega (arith, c .before .pre .product-in-range))) tt
@@ -34,16 +34,16 @@ returns c =
 classes-taken-requires : tie.Need-classes-taken-requires
 classes-taken-requires c κs =
     let ready = c .before .before .before .before .before .pre in
+    let positive = factor-positive _ _ (ready .product-positive) in
     let most = factor-at-most _ _ (ready .product-positive) in
-    (ready .line-below, within-path _ _ (ready .on-path), factor-positive _ _ (ready .product-positive), omega (arith, ready .product-in-range))
+    (ready .line-below, within-path _ _ (ready .on-path), omega arith, omega (arith, ready .product-in-range))
 
 add-added : tie.Need-add-added
 add-added c =
-    let read = c .before .before in
-    let owned = read .before in
-    let started = owned .before .before in
-    let ready = started .before .pre in
-    let few = added-at-most _ _ _ (ready .on-path) (read .weight .ensures) (started .start-in .ensures) (owned .own-nodes .ensures) (c .classes-taken .ensures) in
+    let owned = c .before .before .before in
+    let ready = owned .before .before .before .pre in
+    let groups = classes-at-most _ _ _ _ (c .classes-taken .ensures) in
+    let own = own-at-most _ (owned .own-nodes .ensures) in
     let most = factor-at-most _ _ (ready .product-positive) in
     fits-under w16 _ _ (below-65536 _ (omega (arith, ready .product-in-range))) tt
 
