@@ -2,6 +2,7 @@
 //! of the tree. Only for tests.
 
 use crate::tree::{gcd, Node, Plan, Position, Under};
+use std::collections::BTreeMap;
 
 /// One node with its position.
 pub(crate) struct Placed<'a> {
@@ -30,6 +31,14 @@ pub(crate) fn nodes(plan: &Plan) -> Vec<Placed<'_>> {
         at += 1;
     }
     open
+}
+
+/// The weight of each node, by level and offset, which no two nodes share.
+pub(crate) fn weights(plan: &Plan) -> BTreeMap<(usize, u16), u16> {
+    let placed = nodes(plan).into_iter();
+    placed
+        .map(|Placed { node, position }| ((position.level(), position.offset), node.weight))
+        .collect()
 }
 
 /// All free classes, found by a pass over all w edge numbers (Opening a line, 2).
@@ -99,7 +108,6 @@ fn is_node(placed: &Placed, nodes: usize) -> bool {
 #[cfg(test)]
 mod tests {
     use super::*;
-    use std::collections::BTreeMap;
 
     fn plan(weight: u16, edges: Vec<(u16, Under)>) -> Plan {
         let edges = BTreeMap::from_iter(edges);

@@ -5,7 +5,7 @@
 //! significant byte first, those that are not named here 0. Kinds: 0 opens (line, period),
 //! 1 closes (line), 2 begins again with the empty plan, 3 writes a number into the record
 //! (place, number), 4 asks for an owner (round), 5 shows (line), 6 asks for turns (line,
-//! first, rounds), 7 walks (next, owned).
+//! first, rounds), 7 walks (next, owned), 8 makes a trial (line, period).
 //!
 //! Each step prints one line, a walk two:
 //! `open LINE PERIOD RESULT START`, with `-` for the start of a refused open;
@@ -13,14 +13,18 @@
 //! the line; `show LINE 0 PERIOD START` and the 11 rows, each weight and edge, or
 //! `show LINE RESULT`; `turns LINE FIRST ROUNDS RESULT TURNS`, with `-` where refused;
 //! `walk NEXT OWNED ANSWER NEXT OWNED`, the answer a line, `idle` or `refused 9`, from the
-//! walker by value, then `lent` and the same from the walker on a lent place.
+//! walker by value, then `lent` and the same from the walker on a lent place;
+//! `trial LINE PERIOD 0 START ADDED SPLIT`, with the number of nodes added and `split` or
+//! `whole`, or `trial LINE PERIOD RESULT - - -`.
 //!
 //! A number that is written may leave the record a tree, the same or another, or make it
 //! none, which counts as the empty plan: `record.rs` says which.
 
 use crate::ask::{owner, show, turns, Shown};
 use crate::border_owners::border_owners;
+use crate::border_trials::border_trials;
 use crate::border_turns::border_turns;
+use crate::drawn_trials::with_trials;
 use crate::head::{self, HEAD_BYTES};
 use crate::lists;
 use crate::orders::{read, Order, ORDER_BYTES};
@@ -29,6 +33,7 @@ use crate::record::{drawn_write, Held, RECORD_NUMBERS};
 use crate::refusal::Refusal;
 use crate::shapes::Shape;
 use crate::tree::{Plan, Start};
+use crate::trial::{trial, Trial};
 use crate::walker::{walk, walk_lent, Answer, Place};
 use std::io::{self, Write};
 
@@ -42,6 +47,7 @@ pub enum Step {
     Show(u64),
     Turns { line: u64, first: u64, rounds: u32 },
     Walk(Place),
+    Trial(u64, u64),
 }
 
 impl Step {
@@ -59,6 +65,7 @@ impl Step {
                 rounds,
             } => (6, [line, first, rounds.into()]),
             Step::Walk(Place { next, owned }) => (7, [next, owned, 0]),
+            Step::Trial(line, period) => (8, [line, period, 0]),
         };
         head::write(kind, numbers)
     }
@@ -81,17 +88,23 @@ impl Step {
                 next: first,
                 owned: second,
             })),
+            8 => Some(Step::Trial(first, second)),
             _ => None,
         }
     }
 }
 
 /// The marked cases, then walks at the borders of a place's numbers, turns at those of a first
-/// round, and owners at those of a round.
+/// round, owners at those of a round, and trials at those of a line and a period.
 pub fn cases() -> Vec<Step> {
     let marked = marked_cases().into_iter();
     let begun = marked.flat_map(|case| [vec![Step::Begin], case].concat());
-    let borders = [border_walks(), border_turns(), border_owners()];
+    let borders = [
+        border_walks(),
+        border_turns(),
+        border_owners(),
+        border_trials(),
+    ];
     begun.chain(borders.concat()).collect()
 }
 
@@ -148,10 +161,15 @@ fn border_walks() -> Vec<Step> {
         .collect()
 }
 
+/// Calls on generated lists' plans, and trials among them.
+pub fn generated(seed: u64, count: u64, shape: Shape) -> Vec<Step> {
+    with_trials(&generated_calls(seed, count, shape), seed)
+}
+
 /// Opens and closes of generated lists (`lists`), every eighth with a line or a period that
 /// no order can hold. Each list's plan is then asked and, three times over, has a number
 /// written over, is asked again, and is given calls that change it and one that is refused.
-pub fn generated(seed: u64, count: u64, shape: Shape) -> Vec<Step> {
+pub(crate) fn generated_calls(seed: u64, count: u64, shape: Shape) -> Vec<Step> {
     let mut random = Random::new(seed);
     let mut steps = Vec::new();
     for _ in 0..count {
@@ -322,6 +340,10 @@ fn print_question(plan: &Plan, step: Step, out: &mut impl Write) -> io::Result<(
             writeln!(out, "turns {line} {first} {rounds} {answer}")
         }
         Step::Walk(place) => print_walks(plan, place, out),
+        Step::Trial(line, period) => {
+            let answer = tried(trial(plan, line, period));
+            writeln!(out, "trial {line} {period} {answer}")
+        }
         _ => Ok(()),
     }
 }
@@ -368,6 +390,20 @@ fn walked(before: Place, answer: Answer, after: Place) -> String {
     )
 }
 
+fn tried(answer: Result<Trial, Refusal>) -> String {
+    match answer {
+        Ok(Trial {
+            start,
+            added,
+            split,
+        }) => {
+            let split = if split { "split" } else { "whole" };
+            format!("0 {} {added} {split}", start.0)
+        }
+        Err(refusal) => format!("{} - - -", refusal.number()),
+    }
+}
+
 fn opened(answer: Result<Start, Refusal>) -> String {
     match answer {
         Ok(start) => format!("0 {}", start.0),
@@ -399,11 +435,12 @@ pub(crate) mod tests {
                 rounds: u32::MAX,
             },
             Step::Walk(Place { next, owned: 5 }),
+            Step::Trial(64, u64::MAX),
         ] {
             assert_eq!(Step::of(step.bytes()), Some(step));
         }
         for bytes in [
-            [8; HEAD_BYTES],
+            [9; HEAD_BYTES],
             head::write(3, [0, 1 << 16, 0]),
             head::write(6, [3, 0, 1 << 32]),
         ] {

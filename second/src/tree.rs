@@ -46,11 +46,19 @@ pub(crate) struct Position {
     pub(crate) offset: u16,
 }
 
-/// A candidate with its d and its smallest free class i (Opening a line, 2 and 5).
-struct Candidate {
+/// A candidate with its weight w, its d and its smallest free class i (Opening a line, 2 and 5).
+pub(crate) struct Candidate {
     position: Position,
+    weight: u16,
     d: u16,
     class: u16,
+}
+
+impl Candidate {
+    /// Whether the open splits this node (Opening a line, 6).
+    pub(crate) fn is_split(&self) -> bool {
+        self.d < self.weight
+    }
 }
 
 pub(crate) fn gcd(a: u16, b: u16) -> u16 {
@@ -70,7 +78,7 @@ pub(crate) fn check_line(line: u64) -> Result<u8, Refusal> {
 }
 
 /// As an open checks it, not packing (Refusals, 2).
-fn check_period(period: u64) -> Result<u16, Refusal> {
+pub(crate) fn check_period(period: u64) -> Result<u16, Refusal> {
     match u16::try_from(period) {
         Ok(rounds) if (1..=LAST_PERIOD).contains(&period) => Ok(rounds),
         _ => Err(Refusal::Period),
@@ -134,6 +142,7 @@ impl Node {
         let class = self.free_class(d)?;
         Some(Candidate {
             position: position.clone(),
+            weight: self.weight,
             d,
             class,
         })
@@ -150,7 +159,7 @@ impl Node {
     }
 
     /// Which candidate an open uses (Opening a line, 4).
-    fn best_candidate(&self, period: u16) -> Option<Candidate> {
+    pub(crate) fn best_candidate(&self, period: u16) -> Option<Candidate> {
         let mut found = Vec::new();
         self.candidates(&Position::root(), period, &mut found);
         found
@@ -189,9 +198,11 @@ impl Node {
 
     /// Called on the root once a candidate is known (Opening a line, 6 to 8).
     fn carry_out(&mut self, candidate: &Candidate, line: u8, period: u16) -> Start {
-        let Candidate { position, d, class } = candidate;
+        let Candidate {
+            position, d, class, ..
+        } = candidate;
         let node = self.below(&position.edges_above);
-        if *d < node.weight {
+        if candidate.is_split() {
             node.split(*d);
         }
         let q = period / (position.step * d);

@@ -20,6 +20,8 @@ use test_script::write_number;
 use tree::Period;
 use tree::Plan;
 use tree::Row;
+use trials::Trial;
+use trials::TrialAnswer;
 
 // More steps than a script has are not read.
 const MOST_STEPS: usize = 1000000;
@@ -134,6 +136,34 @@ fn run_turns(current: Plan, line: u64, first: u64, rounds: u32) {
     }
 }
 
+// The start, the number of nodes added, and whether a node is split.
+fn print_trial(trial: Trial) {
+    text(b" 0 ");
+    decimal(trial.start.0 as u64);
+    text(b" ");
+    decimal(trial.added as u64);
+    if trial.split {
+        text(b" split\n");
+    } else {
+        text(b" whole\n");
+    }
+}
+
+fn run_trial(current: Plan, line: u64, period: u64) {
+    text(b"trial ");
+    decimal(line);
+    text(b" ");
+    decimal(period);
+    match plan::trial::trial(current, line, period_of(period)) {
+        TrialAnswer::Fits(trial) => print_trial(trial),
+        TrialAnswer::Refused(number) => {
+            text(b" ");
+            decimal(number as u64);
+            text(b" - - -\n");
+        }
+    }
+}
+
 fn print_place(place: WalkerPlace) {
     text(b" ");
     decimal(place.next);
@@ -184,6 +214,7 @@ fn run_question(current: Plan, kind: u8, first: u64, second: u64, third: u64) {
         4 => run_owner(current, first),
         5 => run_show(current, first),
         6 => run_turns(current, first, second, (third % 4294967296) as u32),
+        8 => run_trial(current, first, second),
         _ => {
             run_walk(
                 current,
