@@ -10,7 +10,8 @@
  * order, so a stored plan is for machines of one byte order.
  *
  * A plan that is no tree (damaged, say, or never written) is treated by each call as the empty plan: owner answers
- * idle, show, turns and close refuse with 4, and an open that is not refused replaces it. gaplinte_is_tree tells.
+ * idle, show, turns and close refuse with 4, a trial tells what an open in the empty plan would do, and an open that is
+ * not refused replaces it. gaplinte_is_tree tells.
  *
  * Threads. The library keeps nothing between calls and has no global data, so calls on different records may run in
  * different threads. While one thread changes a record, no other may use it.
@@ -81,6 +82,14 @@ typedef struct gaplinte_plan {
     gaplinte_row paths[GAPLINTE_LINES][GAPLINTE_ROWS];
 } gaplinte_plan;
 
+/* What trial writes: the start that the open would answer, how many nodes more the plan would have, and 1 where a node
+ * would be split, else 0. */
+typedef struct gaplinte_tried {
+    uint16_t start;
+    uint16_t added;
+    uint16_t split;
+} gaplinte_tried;
+
 /* What show writes: a line's period, its start, and its path from the root on. */
 typedef struct gaplinte_shown {
     uint16_t period;
@@ -114,6 +123,7 @@ typedef struct gaplinte_call {
 #endif
 #ifdef GAPLINTE_SIZE
 GAPLINTE_SIZE(gaplinte_plan, 2816);
+GAPLINTE_SIZE(gaplinte_tried, 6);
 GAPLINTE_SIZE(gaplinte_shown, 48);
 GAPLINTE_SIZE(gaplinte_place, 16);
 GAPLINTE_SIZE(gaplinte_order, 3);
@@ -146,6 +156,11 @@ static inline const char *gaplinte_refusal_text(int64_t answer) {
 
 /* Opens a line with a period of 1 to 4,095 rounds. The value is its start. Refused with 1, 2, 3 or 5. */
 GAPLINTE_NODISCARD int64_t gaplinte_open(gaplinte_plan *plan, uint64_t line, uint64_t period);
+
+/* Tries a line with a period: what the open would bring about is written, and the plan is only read. The value is 0.
+ * Refused with 1, 2, 3 or 5, as the open would be. */
+GAPLINTE_NODISCARD int64_t gaplinte_trial(const gaplinte_plan *plan, uint64_t line, uint64_t period,
+                                          gaplinte_tried *tried);
 
 /* Closes a line. The value is 0. Refused with 1 or 4. */
 GAPLINTE_NODISCARD int64_t gaplinte_close(gaplinte_plan *plan, uint64_t line);

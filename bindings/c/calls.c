@@ -106,6 +106,87 @@ static void every_round(void) {
     EXPECT(gaplinte_owner(&plan, UINT64_MAX), 63);
 }
 
+/* A trial that is not refused writes its three numbers, and the plan stays as found. */
+static void expect_tried(int at, uint64_t line, uint64_t period, int start, int added, int split) {
+    const gaplinte_plan found = plan;
+    gaplinte_tried tried = {9999, 9999, 9999};
+    expect(at, gaplinte_trial(&plan, line, period, &tried), 0);
+    expect(at, tried.start, start);
+    expect(at, tried.added, added);
+    expect(at, tried.split, split);
+    expect(at, memcmp(&plan, &found, sizeof found), 0);
+}
+
+/* A refused trial leaves the three numbers as found, and the plan too. */
+static void expect_not_tried(int at, uint64_t line, uint64_t period, int refusal) {
+    const gaplinte_plan found = plan;
+    const gaplinte_tried lent = {9999, 9998, 9997};
+    gaplinte_tried tried = lent;
+    expect(at, gaplinte_trial(&plan, line, period, &tried), -refusal);
+    expect(at, memcmp(&tried, &lent, sizeof lent), 0);
+    expect(at, memcmp(&plan, &found, sizeof found), 0);
+}
+
+#define EXPECT_TRIED(line, period, start, added, split) expect_tried(__LINE__, line, period, start, added, split)
+#define EXPECT_NOT_TRIED(line, period, refusal) expect_not_tried(__LINE__, line, period, refusal)
+
+/* Marked case A, tried before each open. The 6 splits the root: of weight 4 it becomes one of weight 2, with a node of
+ * weight 2 above the 4 and one of weight 3 above the 6. A 2 would split it too, and stand under the root itself. The 8
+ * and the 12 add a node of weight 2 each. */
+static void trials(void) {
+    memset(&plan, 0, sizeof plan);
+    EXPECT_TRIED(1, 4, 0, 1, 0);
+    EXPECT(gaplinte_open(&plan, 1, 4), 0);
+    EXPECT_TRIED(2, 4, 1, 0, 0);
+    EXPECT_TRIED(2, 2, 1, 1, 1);
+    EXPECT_TRIED(2, 6, 1, 2, 1);
+    EXPECT(gaplinte_open(&plan, 2, 6), 1);
+    EXPECT_TRIED(3, 8, 2, 1, 0);
+    EXPECT(gaplinte_open(&plan, 3, 8), 2);
+    EXPECT_NOT_TRIED(4, 2, GAPLINTE_NO_CANDIDATE);
+    EXPECT_TRIED(4, 12, 3, 1, 0);
+    EXPECT(gaplinte_open(&plan, 4, 12), 3);
+}
+
+/* Each refusal, the earlier one where two checks strike. Lines 1 to 4 are open, and no node is a candidate for 2. */
+static void refused_trials(void) {
+    EXPECT_NOT_TRIED(64, 12, GAPLINTE_LINE_ABOVE_63);
+    EXPECT_NOT_TRIED(64, 0, GAPLINTE_LINE_ABOVE_63);
+    EXPECT_NOT_TRIED(64, 2, GAPLINTE_LINE_ABOVE_63);
+    EXPECT_NOT_TRIED(5, 0, GAPLINTE_PERIOD_OUT_OF_RANGE);
+    EXPECT_NOT_TRIED(5, 4096, GAPLINTE_PERIOD_OUT_OF_RANGE);
+    EXPECT_NOT_TRIED(4, 0, GAPLINTE_PERIOD_OUT_OF_RANGE);
+    EXPECT_NOT_TRIED(4, 4096, GAPLINTE_PERIOD_OUT_OF_RANGE);
+    EXPECT_NOT_TRIED(4, 12, GAPLINTE_LINE_OPEN);
+    EXPECT_NOT_TRIED(4, 2, GAPLINTE_LINE_OPEN);
+    EXPECT_NOT_TRIED(5, 2, GAPLINTE_NO_CANDIDATE);
+}
+
+/* Cut to 16 or 32 bits these would be lines 0 and 5, which are not open, and periods 12 and 4. */
+static void trials_of_wide_numbers(void) {
+    EXPECT_NOT_TRIED(UINT64_C(4294967296), 12, GAPLINTE_LINE_ABOVE_63);
+    EXPECT_NOT_TRIED(UINT64_C(4294967296) + 5, 12, GAPLINTE_LINE_ABOVE_63);
+    EXPECT_NOT_TRIED(65541, 12, GAPLINTE_LINE_ABOVE_63);
+    EXPECT_NOT_TRIED(UINT64_MAX, 12, GAPLINTE_LINE_ABOVE_63);
+    EXPECT_NOT_TRIED(5, 65548, GAPLINTE_PERIOD_OUT_OF_RANGE);
+    EXPECT_NOT_TRIED(5, UINT64_C(4294967296) + 12, GAPLINTE_PERIOD_OUT_OF_RANGE);
+    EXPECT_NOT_TRIED(5, UINT64_C(4294967296) + 4, GAPLINTE_PERIOD_OUT_OF_RANGE);
+    EXPECT_NOT_TRIED(5, UINT64_MAX, GAPLINTE_PERIOD_OUT_OF_RANGE);
+}
+
+/* 63 lines of period 128 under one node. The 64 splits it: its weight becomes 64, and 63 edges lead to a new node of
+ * weight 2. The 192 does that too, and adds a node of weight 3 above itself. For the 32 no class is free. */
+static void trials_in_a_full_plan(void) {
+    memset(&plan, 0, sizeof plan);
+    for (int line = 0; line < 63; line++) EXPECT(gaplinte_open(&plan, (uint64_t)line, 128), line);
+    EXPECT_TRIED(63, 128, 63, 0, 0);
+    EXPECT_TRIED(63, 64, 63, 63, 1);
+    EXPECT_TRIED(63, 192, 63, 64, 1);
+    EXPECT_NOT_TRIED(63, 32, GAPLINTE_NO_CANDIDATE);
+    EXPECT(gaplinte_open(&plan, 63, 192), 63);
+    EXPECT_NOT_TRIED(63, 192, GAPLINTE_LINE_OPEN);
+}
+
 /* Marked case I. */
 static void list(void) {
     const uint8_t orders[] = {0x01, 0x00, 0x60, 0x02, 0x00, 0x20, 0x03, 0x00, 0x30,
@@ -219,6 +300,9 @@ static void damaged(void) {
     EXPECT(gaplinte_turns(&plan, 3, 0, 7), -GAPLINTE_LINE_NOT_OPEN);
     EXPECT(gaplinte_close(&plan, 3), -GAPLINTE_LINE_NOT_OPEN);
     EXPECT(gaplinte_open(&plan, 3, 0), -GAPLINTE_PERIOD_OUT_OF_RANGE);
+    EXPECT_NOT_TRIED(3, 0, GAPLINTE_PERIOD_OUT_OF_RANGE);
+    EXPECT_TRIED(3, 12, 0, 1, 0);
+    EXPECT_TRIED(5, 7, 0, 1, 0);
     EXPECT_SAME(plan, found);
     EXPECT(gaplinte_open(&plan, 3, 12), 0);
     EXPECT_SAME(plan, booked);
@@ -232,6 +316,10 @@ int main(void) {
     show();
     walk();
     every_round();
+    trials();
+    refused_trials();
+    trials_of_wide_numbers();
+    trials_in_a_full_plan();
     list();
     order();
     narrowed();

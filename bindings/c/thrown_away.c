@@ -3,6 +3,7 @@
 #include "gaplinte.h"
 
 gaplinte_plan plan;
+gaplinte_tried tried;
 gaplinte_shown shown;
 gaplinte_place place;
 gaplinte_order order;

@@ -72,6 +72,14 @@ class Row(NamedTuple):
     edge: int
 
 
+class Trial(NamedTuple):
+    """What an open would bring about: its start, how many nodes more there would be, whether a node would be split."""
+
+    start: int
+    added: int
+    split: bool
+
+
 class Shown(NamedTuple):
     """What show gives: a line's period, its start, and the 11 rows of its path; those not used are 0 and 0."""
 
@@ -111,6 +119,10 @@ class _PlanRecord(ctypes.Structure):
     _fields_ = [("paths", _RowRecord * _ROWS * _LINES)]
 
 
+class _TriedRecord(ctypes.Structure):
+    _fields_ = [("start", ctypes.c_uint16), ("added", ctypes.c_uint16), ("split", ctypes.c_uint16)]
+
+
 class _ShownRecord(ctypes.Structure):
     _fields_ = [("period", ctypes.c_uint16), ("start", ctypes.c_uint16), ("path", _RowRecord * _ROWS)]
 
@@ -140,6 +152,7 @@ def _loaded() -> ctypes.CDLL:
     order = ctypes.POINTER(_OrderRecord)
     for name, arguments in {
         "open": [plan, number, number],
+        "trial": [plan, number, number, ctypes.POINTER(_TriedRecord)],
         "close": [plan, number],
         "owner": [plan, number],
         "show": [plan, number, ctypes.POINTER(_ShownRecord)],
@@ -216,6 +229,12 @@ class Plan:
     def open(self, line: int, period: int) -> int:
         """Opens a line and gives its start. Refused with 1, 2, 3 or 5."""
         return _value(_library.gaplinte_open(self._record, _number(line), _number(period)))
+
+    def trial(self, line: int, period: int) -> Trial:
+        """What the open of a line with a period would bring about; the plan is only read. Refused as open is."""
+        tried = _TriedRecord()
+        _value(_library.gaplinte_trial(self._record, _number(line), _number(period), tried))
+        return Trial(tried.start, tried.added, tried.split == 1)
 
     def close(self, line: int) -> None:
         """Closes a line. Refused with 1 or 4."""

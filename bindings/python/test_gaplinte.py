@@ -14,7 +14,7 @@ import threading
 import unittest
 
 import gaplinte
-from gaplinte import KIND_CLOSE, KIND_OPEN, Answer, Call, OpenLine, Plan, Refused, Row, Walker
+from gaplinte import KIND_CLOSE, KIND_OPEN, Answer, Call, OpenLine, Plan, Refused, Row, Trial, Walker
 
 FOLDER = pathlib.Path(__file__).resolve().parent
 REPOSITORY = FOLDER.parents[1]
@@ -90,20 +90,25 @@ class Refusals(Case):
         before = copy.copy(plan)
         for line in (64, 256, 2**32, LAST):
             self.refused(1, plan.open, line, 4)
+            self.refused(1, plan.trial, line, 4)
             self.refused(1, plan.close, line)
             self.refused(1, plan.show, line)
             self.refused(1, plan.turns, line, 0, 9)
             self.refused(1, gaplinte.pack, KIND_CLOSE, line)
         for period in (4096, 65548, 2**32 + 4, LAST):
             self.refused(2, plan.open, 2, period)
+            self.refused(2, plan.trial, 2, period)
             self.refused(2, gaplinte.pack, KIND_OPEN, 2, period)
         self.refused(2, plan.open, 2, 0)
+        self.refused(2, plan.trial, 2, 0)
         self.refused(3, plan.open, 1, 4)
+        self.refused(3, plan.trial, 1, 4)
         self.refused(4, plan.close, 2)
         self.refused(4, plan.show, 2)
         self.refused(4, plan.turns, 2, 0, 9)
         self.refused(4, plan.turns, 2, 0, 0)
         self.refused(5, plan.open, 2, 3)
+        self.refused(5, plan.trial, 2, 3)
         self.refused(6, gaplinte.pack, 2, 0, 0)
         self.refused(6, gaplinte.pack, KIND_CLOSE, 0, 1)
         self.refused(6, gaplinte.read, b"\x80\0\0")
@@ -129,6 +134,8 @@ class Numbers(Case):
             for call in (
                 lambda: plan.open(number, 8),
                 lambda: plan.open(2, number),
+                lambda: plan.trial(number, 8),
+                lambda: plan.trial(2, number),
                 lambda: plan.close(number),
                 lambda: plan.owner(number),
                 lambda: plan.show(number),
@@ -158,6 +165,8 @@ class Numbers(Case):
         for number in (1.0, "1", None, b"\1"):
             self.assertRaises(TypeError, Plan().open, number, 4)
             self.assertRaises(TypeError, Plan().open, 1, number)
+            self.assertRaises(TypeError, Plan().trial, number, 4)
+            self.assertRaises(TypeError, Plan().trial, 1, number)
             self.assertRaises(TypeError, Plan().owner, number)
 
 
@@ -195,9 +204,83 @@ class Records(Case):
         for call in (plan.show, plan.close, lambda line: plan.turns(line, 0, 7)):
             self.refused(4, call, 3)
         self.refused(2, plan.open, 3, 0)
+        self.refused(2, plan.trial, 3, 0)
+        self.assertEqual(plan.trial(3, 12), (0, 1, False))
         self.assertEqual(bytes(plan), numbers.tobytes())
         self.assertEqual(plan.open(3, 12), 0)
         self.assertEqual(plan, booked)
+
+
+class Trials(Case):
+    def nodes(self, plan):
+        """The weight of each node of a plan, by the edges that lead to it from the root."""
+        nodes = {}
+        for line, *_ in plan.lines():
+            path = [row for row in plan.show(line).path if row.weight]
+            for level, row in enumerate(path):
+                nodes[tuple(above.edge for above in path[:level])] = row.weight
+        return nodes
+
+    def tried(self, plan, line, period):
+        """What a trial tells; the plan stays as found, and the open then brings it about."""
+        before, after = copy.copy(plan), copy.copy(plan)
+        told = plan.trial(line, period)
+        self.assertEqual(plan, before)
+        self.assertEqual(after.open(line, period), told.start)
+        old, new = self.nodes(before), self.nodes(after)
+        self.assertEqual(len(new) - len(old), told.added)
+        # A split leaves the node where it is, with another weight.
+        self.assertIs(told.split, any(new[edges] != weight for edges, weight in old.items() if edges in new))
+        return told
+
+    def test_case_a(self):
+        plan = Plan()
+        # The 6 splits the root: a node of weight 2 stands above the 4, and one of weight 3 above the 6.
+        for line, (period, told) in enumerate(
+            ((4, (0, 1, False)), (6, (1, 2, True)), (8, (2, 1, False)), (12, (3, 1, False))), 1
+        ):
+            self.assertEqual(self.tried(plan, line, period), told)
+            plan.open(line, period)
+        self.refused(5, plan.trial, 5, 2)
+        told = plan.trial(5, 16)
+        self.assertEqual(told, Trial(start=6, added=1, split=False))
+
+    def test_one_line(self):
+        plan = self.opened("4@0")
+        # The root of weight 4 becomes one of weight 2 for the 2 and the 6, with a node of weight 2 above the 4.
+        for period, told in ((4, (1, 0, False)), (8, (1, 1, False)), (2, (1, 1, True)), (6, (1, 2, True))):
+            self.assertEqual(self.tried(plan, 2, period), told)
+
+    def test_a_full_plan(self):
+        plan = self.opened(*(f"128@{start}" for start in range(63)))
+        # Each of 63 lines gets a node of weight 2 at a split; the 192 has one of weight 3 besides.
+        for period, told in ((128, (63, 0, False)), (64, (63, 63, True)), (192, (63, 64, True))):
+            self.assertEqual(self.tried(plan, 0, period), told)
+        self.refused(5, plan.trial, 0, 32)
+
+    def test_a_deep_plan(self):
+        plan = self.opened(*(f"{2**power}@{2**(power - 1) - 1}" for power in range(1, 12)))
+        self.assertEqual(self.tried(plan, 0, 2048), (2047, 0, False))
+        self.refused(5, plan.trial, 0, 1024)
+
+    def test_checks_in_sequence(self):
+        plan = self.opened("4@0")
+        self.refused(1, plan.trial, 64, 0)
+        self.refused(1, plan.trial, 64, 3)
+        self.refused(2, plan.trial, 1, 0)
+        self.refused(3, plan.trial, 1, 3)
+        self.assertEqual(plan.lines(), [(1, 4, 0)])
+
+    def test_each_period(self):
+        for plan in (Plan(), self.opened("12@0", "12@1"), self.opened("4@0", "6@1", "8@2", "12@3")):
+            for period in range(1, 200):
+                after = copy.copy(plan)
+                try:
+                    after.open(63, period)
+                except Refused as refused:
+                    self.refused(refused.number, plan.trial, 63, period)
+                else:
+                    self.tried(plan, 63, period)
 
 
 class Turns(Case):

@@ -25,6 +25,6 @@ mod walker;
 pub use answers::{Answered, Answers};
 pub use call::Call;
 pub use numbers::{Line, Period, Round, Start};
-pub use plan::{OpenLine, Plan, Row, Shown};
+pub use plan::{OpenLine, Plan, Row, Shown, Trial};
 pub use refusal::Refusal;
 pub use walker::Walker;

@@ -24,6 +24,17 @@ pub struct Row {
     pub edge: u16,
 }
 
+/// What an open would bring about.
+#[derive(Clone, Copy, Debug, PartialEq, Eq, Hash)]
+pub struct Trial {
+    /// The start that it would answer.
+    pub start: u16,
+    /// How many nodes more the plan would have.
+    pub added: u16,
+    /// Whether a node would be split.
+    pub split: bool,
+}
+
 /// What show gives of a line.
 #[derive(Clone, Copy, Debug, PartialEq, Eq, Hash)]
 pub struct Shown {
@@ -83,6 +94,34 @@ impl Plan {
     /// this sequence of checks. The plan is then as found.
     pub fn open(&mut self, line: Line, period: Period) -> Result<Start, Refusal> {
         outcome(raw::open(&mut self.rows, line.0, period.0)).map(Start)
+    }
+
+    /// Tries a line: tells what [`Plan::open`] with the same line and period would bring about. The plan is only read.
+    ///
+    /// ```
+    /// use gaplinte::{Line, Period, Plan, Refusal, Trial};
+    ///
+    /// let mut plan = Plan::new();
+    /// plan.open(Line(1), Period(4))?;
+    /// // The root's weight would become 2, with a node under each of its two edges.
+    /// let expected = Trial { start: 1, added: 2, split: true };
+    /// assert_eq!(plan.trial(Line(2), Period(6)), Ok(expected));
+    /// assert_eq!(plan.trial(Line(2), Period(3)), Err(Refusal::NoCandidate));
+    /// # Ok::<(), Refusal>(())
+    /// ```
+    ///
+    /// # Errors
+    ///
+    /// As [`Plan::open`], in the same sequence of checks.
+    pub fn trial(&self, line: Line, period: Period) -> Result<Trial, Refusal> {
+        let mut tried = [0; 3];
+        outcome(raw::trial(&self.rows, line.0, period.0, &mut tried))?;
+        let [start, added, split] = tried;
+        Ok(Trial {
+            start,
+            added,
+            split: split == 1,
+        })
     }
 
     /// Closes a line.

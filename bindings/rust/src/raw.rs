@@ -17,6 +17,12 @@ mod foreign {
 
     unsafe extern "C" {
         pub safe fn gaplinte_open(rows: &mut [u16; PLAN_NUMBERS], line: u64, period: u64) -> i64;
+        pub safe fn gaplinte_trial(
+            rows: &[u16; PLAN_NUMBERS],
+            line: u64,
+            period: u64,
+            tried: &mut [u16; 3],
+        ) -> i64;
         pub safe fn gaplinte_close(rows: &mut [u16; PLAN_NUMBERS], line: u64) -> i64;
         pub safe fn gaplinte_owner(rows: &[u16; PLAN_NUMBERS], round: u64) -> i64;
         pub safe fn gaplinte_show(
@@ -61,6 +67,13 @@ mod foreign {
 #[must_use]
 pub fn open(rows: &mut [u16; PLAN_NUMBERS], line: u64, period: u64) -> i64 {
     foreign::gaplinte_open(rows, line, period)
+}
+
+/// Tries a line: the start that the open would answer, how many nodes more the plan would have, and 1 where a node would
+/// be split, else 0, are written; the value is 0. Refused with 1, 2, 3 or 5, as the open would be.
+#[must_use]
+pub fn trial(rows: &[u16; PLAN_NUMBERS], line: u64, period: u64, tried: &mut [u16; 3]) -> i64 {
+    foreign::gaplinte_trial(rows, line, period, tried)
 }
 
 /// Closes a line; the value is 0. Refused with 1 or 4.

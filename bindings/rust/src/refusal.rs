@@ -10,7 +10,7 @@ pub enum Refusal {
     LineAbove63 = 1,
     /// Period 0 or above 4,095.
     PeriodOutOfRange = 2,
-    /// Open of a line that is open.
+    /// Open or trial of a line that is open.
     LineOpen = 3,
     /// Close, show or turns of a line that is not open.
     LineNotOpen = 4,

@@ -1,7 +1,7 @@
 //! A record that is no tree, through every call: it is treated as the empty plan, and a refused call leaves it as
 //! found.
 
-use gaplinte::{Answered, Line, Period, Plan, Refusal, Round, Start, Walker};
+use gaplinte::{Answered, Line, Period, Plan, Refusal, Round, Start, Trial, Walker};
 
 /// Records that are no tree: a number out of range, an edge not below its weight, a row after an unused one, two lines
 /// at one place, an edge without a weight, a line above another, every number alike.
@@ -48,6 +48,28 @@ fn asked() {
         let mut walker = Walker::default();
         assert_eq!(walker.walk(&plan), Ok(None));
         assert_eq!((walker.next, walker.owned), (Round(1), 0));
+    }
+}
+
+/// As on the empty plan: one node is added, and no line is open.
+#[test]
+fn tried() {
+    let told = Trial {
+        start: 0,
+        added: 1,
+        split: false,
+    };
+    for plan in damaged() {
+        let found = plan.clone();
+        for line in [0, 3, 5, 63].map(Line) {
+            for period in [1, 5, 12, 4095].map(Period) {
+                assert_eq!(plan.trial(line, period), Ok(told));
+            }
+            let refused = plan.trial(line, Period(0));
+            assert_eq!(refused, Err(Refusal::PeriodOutOfRange));
+        }
+        assert_eq!(plan.trial(Line(64), Period(0)), Err(Refusal::LineAbove63));
+        assert_eq!(plan, found);
     }
 }
 

@@ -23,6 +23,10 @@ fn one_line() -> [u16; raw::PLAN_NUMBERS] {
 fn values() {
     let mut rows = one_line();
     assert_eq!(rows[22 * 5..22 * 5 + 4], [4, 0, 0, 0]);
+    let mut tried = [7; 3];
+    assert_eq!(raw::trial(&rows, 6, 6, &mut tried), 0);
+    assert_eq!(tried, [1, 2, 1]);
+    assert_eq!(rows, one_line());
     assert_eq!(raw::open(&mut rows, 6, 4), 1);
     assert_eq!(raw::owner(&rows, 4), 5);
     assert_eq!(raw::owner(&rows, u64::MAX - 2), 6);
@@ -58,6 +62,8 @@ fn a_refusal_is_minus_its_number() {
     ] {
         let refused = kept(&mut rows, |rows| raw::open(rows, line, period));
         assert_eq!(refused, answer);
+        let tried = kept(&mut [7; 3], |tried| raw::trial(&rows, line, period, tried));
+        assert_eq!(tried, answer);
     }
     for (line, answer) in [(64, -1), (u64::MAX, -1), (1, -4)] {
         assert_eq!(kept(&mut rows, |rows| raw::close(rows, line)), answer);

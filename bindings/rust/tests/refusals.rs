@@ -70,6 +70,8 @@ fn line_above_63() {
     for line in [64, 65, 256, 1 << 32, u64::MAX].map(Line) {
         assert_eq!(plan.open(line, Period(4)), Err(Refusal::LineAbove63));
         assert_eq!(plan.open(line, Period(0)), Err(Refusal::LineAbove63));
+        assert_eq!(plan.trial(line, Period(4)), Err(Refusal::LineAbove63));
+        assert_eq!(plan.trial(line, Period(0)), Err(Refusal::LineAbove63));
         assert_eq!(plan.close(line), Err(Refusal::LineAbove63));
         assert_eq!(plan.show(line), Err(Refusal::LineAbove63));
         assert_eq!(plan.turns(line, Round(0), 9), Err(Refusal::LineAbove63));
@@ -92,6 +94,9 @@ fn period_out_of_range() {
         assert_eq!(plan.open(Line(1), period), Err(Refusal::PeriodOutOfRange));
         // before 3
         assert_eq!(plan.open(Line(0), period), Err(Refusal::PeriodOutOfRange));
+        for line in [1, 0].map(Line) {
+            assert_eq!(plan.trial(line, period), Err(Refusal::PeriodOutOfRange));
+        }
         assert_eq!(pack(0, Line(1), period), Err(Refusal::PeriodOutOfRange));
         assert_eq!(
             Call::Open(Line(1), period).pack(),
@@ -103,6 +108,10 @@ fn period_out_of_range() {
         plan.open(Line(1), Period(0)),
         Err(Refusal::PeriodOutOfRange)
     );
+    assert_eq!(
+        plan.trial(Line(1), Period(0)),
+        Err(Refusal::PeriodOutOfRange)
+    );
     assert_eq!(pack(0, Line(1), Period(0)), Ok([0x01, 0x00, 0x00]));
     assert_eq!(plan, one_line());
 }
@@ -111,6 +120,10 @@ fn period_out_of_range() {
 fn line_open_and_not_open() {
     let mut plan = one_line();
     assert_eq!(plan.open(Line(0), Period(4)), Err(Refusal::LineOpen));
+    // before 5
+    for period in [4, 3].map(Period) {
+        assert_eq!(plan.trial(Line(0), period), Err(Refusal::LineOpen));
+    }
     assert_eq!(plan.close(Line(1)), Err(Refusal::LineNotOpen));
     assert_eq!(plan.show(Line(1)), Err(Refusal::LineNotOpen));
     for rounds in [0, 9] {
@@ -124,6 +137,7 @@ fn line_open_and_not_open() {
 fn no_candidate() {
     let mut plan = one_line();
     assert_eq!(plan.open(Line(1), Period(3)), Err(Refusal::NoCandidate));
+    assert_eq!(plan.trial(Line(1), Period(3)), Err(Refusal::NoCandidate));
     assert_eq!(plan, one_line());
 }
 
