@@ -28,7 +28,7 @@ pub struct Row {
 #[derive(Clone, Copy, Debug, PartialEq, Eq, Hash)]
 pub struct Trial {
     /// The start that it would answer.
-    pub start: u16,
+    pub start: Start,
     /// How many nodes more the plan would have.
     pub added: u16,
     /// Whether a node would be split.
@@ -99,12 +99,12 @@ impl Plan {
     /// Tries a line: tells what [`Plan::open`] with the same line and period would bring about. The plan is only read.
     ///
     /// ```
-    /// use gaplinte::{Line, Period, Plan, Refusal, Trial};
+    /// use gaplinte::{Line, Period, Plan, Refusal, Start, Trial};
     ///
     /// let mut plan = Plan::new();
     /// plan.open(Line(1), Period(4))?;
     /// // The root's weight would become 2, with a node under each of its two edges.
-    /// let expected = Trial { start: 1, added: 2, split: true };
+    /// let expected = Trial { start: Start(1), added: 2, split: true };
     /// assert_eq!(plan.trial(Line(2), Period(6)), Ok(expected));
     /// assert_eq!(plan.trial(Line(2), Period(3)), Err(Refusal::NoCandidate));
     /// # Ok::<(), Refusal>(())
@@ -118,7 +118,7 @@ impl Plan {
         outcome(raw::trial(&self.rows, line.0, period.0, &mut tried))?;
         let [start, added, split] = tried;
         Ok(Trial {
-            start,
+            start: Start(start.into()),
             added,
             split: split == 1,
         })

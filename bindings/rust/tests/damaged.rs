@@ -55,7 +55,7 @@ fn asked() {
 #[test]
 fn tried() {
     let told = Trial {
-        start: 0,
+        start: Start(0),
         added: 1,
         split: false,
     };

@@ -1,16 +1,52 @@
-//! The same calls put to the second program, which is written from document 01 and, of document 02, Ask 1 alone: every
-//! answer agrees.
+//! The same calls put to the second program, which is written from document 01 and, of document 02, Ask 1 and Ask 3;
+//! Ask 2 changes no answer. Every answer agrees.
 
-use gaplinte::{raw, Answered, Answers, Call, Line, Period, Plan, Refusal, Round, Start, Walker};
+use gaplinte::{
+    raw, Answered, Answers, Call, Line, Period, Plan, Refusal, Round, Start, Trial, Walker,
+};
 use second::orders::{self, Order};
 use second::random::Random;
 use second::record::{drawn_write, Held, Record};
 use second::shapes::Shape;
-use second::{ask, lists, tree, walker};
+use second::{ask, lists, tree, trial, walker};
 use std::array;
+use std::collections::{BTreeMap, BTreeSet};
 
 const LISTS_OF_A_SHAPE: u64 = 100;
 const ROUNDS: u64 = 200;
+const DRAWN_PERIODS: u64 = 40;
+
+/// Cut to 8, 16 or 32 bits some would be line 0 or 4.
+const LINES_ABOVE_63: [u64; 9] = [
+    64,
+    255,
+    260,
+    65_540,
+    1 << 32,
+    (1 << 32) + 4,
+    1 << 63,
+    u64::MAX - 63,
+    u64::MAX,
+];
+
+/// Cut to 16 or 32 bits some would be 4 or 12.
+const BORDER_PERIODS: [u64; 15] = [
+    0,
+    1,
+    2,
+    4094,
+    4095,
+    4096,
+    4097,
+    65_535,
+    65_536,
+    65_548,
+    1 << 32,
+    (1 << 32) + 4,
+    1 << 63,
+    u64::MAX - 1,
+    u64::MAX,
+];
 
 /// A refusal of either program as its number.
 fn numbered<T>(answer: Result<T, Refusal>) -> Result<T, u8> {
@@ -80,6 +116,41 @@ fn same_turns(plan: &Plan, other: &tree::Plan, line: u64, random: &mut Random) {
         let expected = numbered_second(ask::turns(other, line, first, rounds));
         assert_eq!(turns, expected, "line {line}, {rounds} rounds from {first}");
     }
+}
+
+/// A trial on two plans that should have the same tree: whether a node would be split, or the refusal.
+fn same_trial(plan: &Plan, other: &tree::Plan, line: u64, period: u64) -> Result<bool, u8> {
+    let told = numbered(plan.trial(Line(line), Period(period)));
+    let expected = numbered_second(trial::trial(other, line, period)).map(|it| Trial {
+        start: Start(it.start.0.into()),
+        added: it.added,
+        split: it.split,
+    });
+    assert_eq!(told, expected, "line {line}, period {period}");
+    told.map(|it| it.split)
+}
+
+/// Periods at the borders, drawn ones, and such as share a factor with the period of an open line.
+fn periods_to_try(plan: &Plan, random: &mut Random) -> Vec<u64> {
+    let mut periods = BTreeSet::from(BORDER_PERIODS);
+    periods.extend((0..DRAWN_PERIODS).map(|_| number_about(4096, random)));
+    let factors = |period| [period / 3, period / 2, period, 2 * period, 3 * period];
+    periods.extend(plan.lines().flat_map(|it| factors(it.period.0)));
+    periods.into_iter().collect()
+}
+
+/// Trials of every line with one of the periods, and of a line that is not open, if there is one, with each of them.
+fn same_trials(plan: &Plan, other: &tree::Plan, random: &mut Random) -> Vec<Result<bool, u8>> {
+    let periods = periods_to_try(plan, random);
+    let lines = (0..64).chain(LINES_ABOVE_63);
+    let mut tries: Vec<_> = lines.map(|line| (line, random.pick(&periods))).collect();
+    let not_open = (0..64).find(|&line| ask::show(other, line).is_err());
+    let line = not_open.unwrap_or(63);
+    tries.extend(periods.into_iter().map(|period| (line, period)));
+    let told = tries
+        .into_iter()
+        .map(|(line, period)| same_trial(plan, other, line, period));
+    told.collect()
 }
 
 /// Owner, show, turns, the open lines and the walker on two plans that should have the same tree.
@@ -188,6 +259,39 @@ fn order_lists() {
     }
 }
 
+/// Before each open of a list trials with its line or another and with its period or another, and more after the list.
+fn try_list(list: &[u8], random: &mut Random) -> Vec<Result<bool, u8>> {
+    let mut plan = Plan::new();
+    let mut other = tree::Plan::empty();
+    let mut told = Vec::new();
+    for order in list.as_chunks::<3>().0 {
+        if let Ok(Order::Open { line, period }) = orders::read(*order) {
+            let lines = [line.into(), number_about(64, random)];
+            let periods = [period.into(), number_about(4096, random)];
+            let tries = lines.map(|line| periods.map(|period| (line, period)));
+            let tries = tries.as_flattened().iter();
+            told.extend(tries.map(|&(line, period)| same_trial(&plan, &other, line, period)));
+        }
+        let answers = plan.run_list(order).unwrap().into_iter().map(numbered);
+        assert!(answers.eq(told_by_second(&mut other, order)));
+    }
+    told.extend(same_trials(&plan, &other, random));
+    told
+}
+
+/// Each refusal of a trial, and trials with and without a split, are seen often.
+#[test]
+fn trials() {
+    let mut random = Random::new(16);
+    let mut seen = BTreeMap::new();
+    for told in lists().flat_map(|list| try_list(&list, &mut random)) {
+        *seen.entry(told).or_insert(0) += 1;
+    }
+    let kinds = [Ok(false), Ok(true), Err(1), Err(2), Err(3), Err(5)];
+    assert!(seen.keys().eq(&kinds), "{seen:?}");
+    assert!(seen.values().all(|&count| count > 1000), "{seen:?}");
+}
+
 fn numbers(record: &Record) -> [u16; raw::PLAN_NUMBERS] {
     array::from_fn(|place| record.number(place))
 }
@@ -212,8 +316,10 @@ fn damaged_records() {
             let mut lines: Vec<u64> = plan.lines().map(|open| open.line.0).collect();
             lines.push(line);
             same_turns(&plan, &held.plan, random.pick(&lines), &mut random);
+            same_trials(&plan, &held.plan, &mut random);
             let answer = plan.close(Line(line));
             assert_eq!(numbered(answer), numbered_second(held.close(line)));
+            let _ = same_trial(&plan, &held.plan, line, period);
             let answer = plan.open(Line(line), Period(period)).map(|start| start.0);
             let expected = held.open(line, period).map(|start| start.0.into());
             assert_eq!(numbered(answer), numbered_second(expected));

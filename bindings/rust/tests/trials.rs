@@ -13,7 +13,7 @@ const LISTS_OF_A_SHAPE: u64 = 100;
 const WRITES: u64 = 8;
 
 /// Start, nodes added and whether a node is split.
-type Told = Result<(u16, u16, bool), Refusal>;
+type Told = Result<(u64, u16, bool), Refusal>;
 
 const NO_CANDIDATE: Told = Err(Refusal::NoCandidate);
 
@@ -68,7 +68,7 @@ fn open_as_tried(plan: &mut Plan, line: Line, period: Period) -> Result<Trial, R
     let told = plan.trial(line, period);
     assert_eq!(*plan, found, "a trial only reads");
     let answer = plan.open(line, period);
-    let start = told.map(|told| Start(told.start.into()));
+    let start = told.map(|told| told.start);
     assert_eq!(answer, start, "line {line}, period {period}");
     match told {
         Ok(told) => {
@@ -89,7 +89,7 @@ fn opened(periods: &[(u64, Told)]) -> Plan {
     let mut plan = Plan::new();
     for (line, &(period, expected)) in (1..).zip(periods) {
         let told = open_as_tried(&mut plan, Line(line), Period(period));
-        let told = told.map(|it| (it.start, it.added, it.split));
+        let told = told.map(|it| (it.start.0, it.added, it.split));
         assert_eq!(told, expected, "line {line}, period {period}");
     }
     plan
@@ -99,7 +99,7 @@ fn opened(periods: &[(u64, Told)]) -> Plan {
 fn expect(plan: &Plan, periods: &[(u64, Told)]) {
     for &(period, expected) in periods {
         let told = open_as_tried(&mut plan.clone(), Line(63), Period(period));
-        let told = told.map(|it| (it.start, it.added, it.split));
+        let told = told.map(|it| (it.start.0, it.added, it.split));
         assert_eq!(told, expected, "period {period}");
     }
 }
@@ -119,7 +119,7 @@ fn case_a() -> Plan {
 /// Marked case F: under edge 1 of the deepest node stands a new node of weight 2 each time.
 fn rising_powers() -> Plan {
     let starts = (0..11).map(|power| (1 << power) - 1);
-    let told = starts.map(|start: u16| (2 * u64::from(start) + 2, Ok((start, 1, false))));
+    let told = starts.map(|start| (2 * start + 2, Ok((start, 1, false))));
     opened(&told.collect::<Vec<_>>())
 }
 
@@ -127,7 +127,7 @@ fn rising_powers() -> Plan {
 /// of these edges leads to a new node of weight 2; the line stands under edge k. All edges of 8 are taken when k is 8.
 fn falling_powers() -> Plan {
     let mut periods = vec![(2048, Ok((0, 1, false)))];
-    periods.extend((1..8).map(|k| (2048 >> k, Ok((k, k, true)))));
+    periods.extend((1..8).map(|k| (2048 >> k, Ok((k.into(), k, true)))));
     periods.push((8, NO_CANDIDATE));
     opened(&periods)
 }
@@ -137,7 +137,7 @@ fn all_but_one() -> Plan {
     let mut plan = Plan::new();
     for line in 0..63 {
         let told = open_as_tried(&mut plan, Line(line), Period(128));
-        let (start, added, split) = (line as u16, (line == 0).into(), false);
+        let (start, added, split) = (Start(line), (line == 0).into(), false);
         let expected = Trial {
             start,
             added,
