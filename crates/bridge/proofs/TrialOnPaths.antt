@@ -1,21 +1,21 @@
 -- What a trial counts on the paths (`trial-at` of crate paths, specs/Rules.antt) is what the open at the chosen candidate brings about.
 -- Assumes nothing.
-use Prim.Native.Nat.{ℕ, _+_, _*_, _/_}
+use Prim.Native.Nat.{ℕ}
 use mathlib.Core.Path.{_≡_, sym, _∙_, ap, fun-ext}
-use mathlib.Core.Bool.{Bool, true, not, Bool·not-not}
-use lib.Dec.{eqb, ltb}
-use lib.ListN.{length, take}
+use mathlib.Core.Bool.{true, not, Bool·not-not}
+use lib.Dec.{ltb}
+use lib.ListN.{length}
 use Rattle.tree.specs.declared.Plan.{Plan}
-use Rattle.tree.specs.Search.{if_then_else_, count-below}
-use Rattle.tree.specs.Tree.{Tree, node, present, sum, Place, at, way, step}
-use Rattle.tree.specs.Opening.{divisor, free}
-use Rattle.tree.specs.Trial.{Trial, is-split, split-in, trial}
+use Rattle.tree.specs.Search.{count-below}
+use Rattle.tree.specs.Tree.{Tree, node, present, sum, Place, at, way}
+use Rattle.tree.specs.Opening.{free}
+use Rattle.tree.specs.Trial.{is-split, split-in, trial}
 use Rattle.tree.specs.Record.{path-at, legal, treeOf}
 use Rattle.paths.specs.Rules.{Family, row-of, class-taken, classes-taken, own-nodes, Spot, place-of, trial-at}
 use Rattle.tree.proofs.Standing.{path-stands}
 use Rattle.tree.proofs.UnderEdge.{stands-present}
 use Rattle.tree.proofs.Opening.{MayOpen}
-use Rattle.tree.proofs.NodesAdded.{groups-added, nodes-added, nodes-added-in, trial-added}
+use Rattle.tree.proofs.NodesAdded.{nodes-added, nodes-added-in, trial-added}
 use Rattle.bridge.proofs.TreeOfRecord.{treeOf-paths}
 use Rattle.bridge.proofs.NodesOnPaths.{place-on, way-sum}
 use Rattle.bridge.proofs.ClassOnPaths.{family-path, node-on-path, class-free-is}

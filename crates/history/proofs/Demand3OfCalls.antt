@@ -8,7 +8,7 @@ use mathlib.Core.Option.{Option, none, some, Option·none-ne-some}
 use Rattle.tree.specs.declared.Plan.{Plan}
 use Rattle.tree.specs.Tree.{Tree, nothing}
 use Rattle.tree.specs.Asking.{owner}
-use Rattle.tree.specs.Calls.{Call, open-line, close-line, Answer, refusal, reply, carried-out, answer-unless, tree-unless, answer, after}
+use Rattle.tree.specs.Calls.{Call, open-line, close-line, Answer, refusal, reply, carried-out, answer-unless, answer, after}
 use Rattle.tree.specs.Lists.{Entry, calls-of, reference-from, reference, answered-from}
 use Rattle.tree.specs.Demand3.{Demand3}
 use Rattle.tree.specs.Record.{treeOf, recordOf}

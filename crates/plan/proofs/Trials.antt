@@ -5,7 +5,6 @@ use mathlib.Core.Path.{_≡_, _∙_, ap}
 use mathlib.Core.Bool.{false}
 use mathlib.Core.List.{List}
 use Rattle.tree.specs.declared.Plan.{Plan}
-use Rattle.tree.specs.Tree.{Tree}
 use Rattle.tree.specs.Calls.{open-line, Outcome}
 use Rattle.tree.specs.Trial.{Trial, trial-outcome}
 use Rattle.tree.specs.Record.{legal, treeOf}

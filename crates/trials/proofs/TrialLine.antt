@@ -1,23 +1,23 @@
 -- The ways that a trial can go on a legal record, by what is offered to the open.
 -- Assumes nothing.
-use Prim.Native.Nat.{ℕ, _≤_}
+use Prim.Native.Nat.{ℕ}
 use native.Mathlib.Omega.{arith}
 use mathlib.Core.Path.{_≡_, sym, _∙_, ap}
 use mathlib.Core.Bool.{false}
 use mathlib.Core.List.{List}
-use mathlib.Core.Option.{Option, none, some}
+use mathlib.Core.Option.{none, some}
 use lib.ListN.{length}
-use Rattle.tree.specs.Tree.{Tree, nothing}
+use Rattle.tree.specs.Tree.{nothing}
 use Rattle.tree.specs.Opening.{chosen, best}
 use Rattle.tree.specs.Refusals.{open-refusal}
-use Rattle.tree.specs.Calls.{Outcome, gives, refuses, gives-unless}
+use Rattle.tree.specs.Calls.{gives, refuses, gives-unless}
 use Rattle.tree.specs.Trial.{Trial, split-in, trial, trial-outcome}
 use Rattle.tree.specs.Record.{path-at}
 use Rattle.paths.specs.Rules.{Spot, trial-at}
 use Rattle.tree.proofs.Opening.{start-empty}
 use Rattle.tree.proofs.NodesAdded.{trial-added-empty}
 use Rattle.bridge.specs.Rows.{plan-of, tree-of}
-use Rattle.bridge.proofs.FirstRecord.{AllClosed, all-closed-nothing}
+use Rattle.bridge.proofs.FirstRecord.{all-closed-nothing}
 use Rattle.bridge.proofs.CallsOnRecords.{first-not-refused, spot-found, not-refused, may-open}
 use Rattle.bridge.proofs.TrialOnPaths.{trial-at-is}
 use Rattle.candidates.specs.Edges.{ClosedFrom}
