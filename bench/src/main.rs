@@ -1,4 +1,5 @@
 //! Compares the proved library and the program `book` with the same in plain Rust: first their answers, then their speed.
+//! Then the trial of the library with its open.
 
 use gaplinte::raw;
 

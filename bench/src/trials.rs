@@ -1,6 +1,6 @@
 //! The trial beside the open: both by the library, in turn, each on a copy of the same record, since the open changes it.
 
-use crate::inputs::plan_of;
+use crate::inputs::{plan_of, plan_of_powers};
 use crate::measure::{best_of, Task, TOGETHER};
 use crate::{Record, LIBRARY};
 use gaplinte::raw;
@@ -18,27 +18,38 @@ enum Outcome {
     Refused,
 }
 
+/// By the open itself: a split moves rows of lines that were there before.
 fn outcome(rows: &Record, period: u64) -> Outcome {
-    let mut tried = [0; 3];
-    match raw::trial(rows, LINE, period, &mut tried) {
-        0 if tried[2] == 1 => Outcome::Split,
-        0 => Outcome::Whole,
-        _ => Outcome::Refused,
+    let mut opened = *rows;
+    let answer = (LIBRARY.open)(&mut opened, LINE, period);
+    let others = 22 * LINE as usize;
+    match answer {
+        ..0 => Outcome::Refused,
+        _ if opened[..others] == rows[..others] => Outcome::Whole,
+        _ => Outcome::Split,
     }
 }
 
 /// The smallest period above 1 whose open comes to this.
-fn period_for(rows: &Record, wanted: Outcome) -> Option<u64> {
-    (2..4_096).find(|&period| outcome(rows, period) == wanted)
+fn period_for(rows: &Record, wanted: Outcome) -> u64 {
+    let mut periods = 2..4_096;
+    let period = periods.find(|&period| outcome(rows, period) == wanted);
+    period.expect("some open comes to this")
 }
 
-/// The trial's start, or its refusal, is the open's answer.
-fn assert_open_answers_as_tried(rows: &Record, period: u64) {
+/// The trial tells the open's start and split, or its refusal.
+fn assert_open_comes_to_what_was_tried(rows: &Record, period: u64) {
     let mut tried = [0; 3];
     let told = raw::trial(rows, LINE, period, &mut tried);
-    let opened = (LIBRARY.open)(&mut rows.clone(), LINE, period);
-    let start = i64::from(tried[0]);
-    assert_eq!(opened, if told == 0 { start } else { told });
+    let answer = (LIBRARY.open)(&mut rows.clone(), LINE, period);
+    let outcome = outcome(rows, period);
+    match told {
+        0 => {
+            assert_eq!(answer, i64::from(tried[0]));
+            assert_eq!(tried[2] == 1, outcome == Outcome::Split);
+        }
+        _ => assert_eq!((answer, outcome), (told, Outcome::Refused)),
+    }
 }
 
 fn on_copies(rows: Record, call: impl Fn(&mut Record) -> i64 + 'static) -> Task {
@@ -51,11 +62,9 @@ fn on_copies(rows: Record, call: impl Fn(&mut Record) -> i64 + 'static) -> Task 
     })
 }
 
-fn measure_one(lines: u64, rows: Record, wanted: Outcome) {
-    let Some(period) = period_for(&rows, wanted) else {
-        return;
-    };
-    assert_open_answers_as_tried(&rows, period);
+fn measure_one(plan: &str, rows: Record, wanted: Outcome) {
+    let period = period_for(&rows, wanted);
+    assert_open_comes_to_what_was_tried(&rows, period);
     let trial = on_copies(rows, move |copy| {
         raw::trial(copy, LINE, black_box(period), black_box(&mut [0; 3]))
     });
@@ -64,17 +73,27 @@ fn measure_one(lines: u64, rows: Record, wanted: Outcome) {
     });
     let [trial, open] = best_of(REPETITIONS, [trial, open]).map(|total| total / TOGETHER as f64);
     let ratio = trial / open;
-    println!("| {wanted:?}, period {period} | {lines} | {trial:.0} | {open:.0} | {ratio:.2} |");
+    println!("| {plan} | {period} | {wanted:?} | {trial:.0} | {open:.0} | {ratio:.2} |");
 }
 
-/// In plans that have so many lines before, for each outcome that the plan allows.
+/// In plans of so many lines, and in case F's, with 11 nodes above its last line.
 pub fn measure_trials() {
     println!();
-    println!("| open comes to | lines before | trial, ns | open, ns | trial by open |");
-    println!("|---|---|---|---|---|");
-    for lines in [0, 1, 15, 63] {
+    println!("| plan | period | the open | trial, ns | open, ns | trial by open |");
+    println!("|---|---|---|---|---|---|");
+    measure_one("empty", plan_of(0), Outcome::Whole);
+    let plans = [
+        ("1 line", plan_of(1)),
+        ("15 lines", plan_of(15)),
+        ("63 lines", plan_of(63)),
+    ];
+    for (plan, rows) in plans {
         for wanted in [Outcome::Whole, Outcome::Split, Outcome::Refused] {
-            measure_one(lines, plan_of(lines), wanted);
+            measure_one(plan, rows, wanted);
         }
+    }
+    // Its nodes have weight 2, and none can be split.
+    for wanted in [Outcome::Whole, Outcome::Refused] {
+        measure_one("case F", plan_of_powers(), wanted);
     }
 }

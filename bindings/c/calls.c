@@ -162,7 +162,7 @@ static void refused_trials(void) {
     EXPECT_NOT_TRIED(5, 2, GAPLINTE_NO_CANDIDATE);
 }
 
-/* Cut to 16 or 32 bits these would be lines 0 and 5, which are not open, and periods 12 and 4. */
+/* Cut to 16 or 32 bits all but the largest would be lines 0 and 5, which are not open, and periods 12 and 4. */
 static void trials_of_wide_numbers(void) {
     EXPECT_NOT_TRIED(UINT64_C(4294967296), 12, GAPLINTE_LINE_ABOVE_63);
     EXPECT_NOT_TRIED(UINT64_C(4294967296) + 5, 12, GAPLINTE_LINE_ABOVE_63);

@@ -7,7 +7,7 @@ pub enum Refusal {
     Line = 1,
     /// Period out of range; packing lets 0 pass (Refusals, 2).
     Period = 2,
-    /// Given by open only (Refusals, 3).
+    /// Given by open and trial only (Refusals, 3).
     LineOpen = 3,
     /// The call needs an open line (Refusals, 4).
     LineNotOpen = 4,

@@ -24,14 +24,14 @@ pub struct Row {
     pub edge: u16,
 }
 
-/// What an open would bring about.
+/// What an open would come to.
 #[derive(Clone, Copy, Debug, PartialEq, Eq, Hash)]
 pub struct Trial {
     /// The start that it would answer.
     pub start: Start,
-    /// How many nodes more the plan would have.
+    /// By how many nodes the tree would grow.
     pub added: u16,
-    /// Whether a node would be split.
+    /// Whether it would split a node.
     pub split: bool,
 }
 
@@ -96,7 +96,7 @@ impl Plan {
         outcome(raw::open(&mut self.rows, line.0, period.0)).map(Start)
     }
 
-    /// Tries a line: tells what [`Plan::open`] with the same line and period would bring about. The plan is only read.
+    /// Tries a line: tells what [`Plan::open`] with the same line and period would come to. The plan is only read.
     ///
     /// ```
     /// use gaplinte::{Line, Period, Plan, Refusal, Start, Trial};

@@ -45,7 +45,7 @@ answer-is-told c t = by-refusal (refusal c t) (refusal-small c t)
     by-refusal none small = reply-is-told c t
     by-refusal (some n) small = refusal-is-told c n (small .0)
 
-served-is-carried-out : (c : Call) (before after : List ℕ) (r : ℤ) → ChangeServed c before after r → CarriedOut c before after (answer-told c r)
+pub served-is-carried-out : (c : Call) (before after : List ℕ) (r : ℤ) → ChangeServed c before after r → CarriedOut c before after (answer-told c r)
 served-is-carried-out c before after r served =
     record { answer-is = ap (answer-told c) (served .answer-is) ∙ answer-is-told c (tree-of before); rows-are = served .rows-are }
 

@@ -1,5 +1,6 @@
 pub mod Ran
 pub mod RanOnRows
 pub mod RanInLibrary
+pub mod TriedInLibrary
 pub mod OrdersRun
 pub mod Replay

@@ -30,17 +30,17 @@ use Rattle.bridge.proofs.TreeOfRecord.{open-on-record}
 use Rattle.bridge.proofs.CallsOnRecords.{no-room-on, open-first-on, spot-found, may-open}
 use Rattle.bridge.proofs.SpotFacts.{divisor-positive, product-at-most, product-positive, start-below, row-left, rows-fit}
 use Rattle.bridge.proofs.BookedRecord.{split-path-at}
-use Rattle.lines.specs.declared.offer.Offer.{Offer}
-use Rattle.lines.specs.declared.offer.Offer.the-variants.{Refused, Root, At}
+use Rattle.lines.specs.declared.check.CheckedOpen.{CheckedOpen}
+use Rattle.lines.specs.declared.check.CheckedOpen.the-variants.{Refused, Root, At}
 use Rattle.lines.specs.Bookable.{Bookable, BookableAt, SplittableIfSmaller, split-if-smaller}
-use Rattle.lines.specs.Offers.{Searched, Offered}
+use Rattle.lines.specs.Checks.{Searched, OpenChecked}
 
--- What is offered
+-- The checks and the search
 
 -- the lines from 0 on are closed
-pub none-open : {rows : List ℕ} → ClosedFrom rows 0 → AllClosed rows
+pub all-closed : {rows : List ℕ} → ClosedFrom rows 0 → AllClosed rows
 unfolding AllClosed
-none-open closed M below = closed .closed M (omega arith) below
+all-closed closed M below = closed .closed M (omega arith) below
 
 module _ {rows : List ℕ} {end : ℕ} (lines : EndOfLines rows end) where
   pub root-found : end ≡ 0 → ClosedFrom rows 0
@@ -55,35 +55,35 @@ pub open-again : (rows : List ℕ) (L p : ℕ) → legal rows ≡ true → L ≤
 open-again rows L p is-legal number inside there =
     open-refused-3 L p (tree-of rows) number inside (open-on-record rows is-legal L (omega arith) ∙ ap not there)
 
--- an open that passes the checks 1, 2 and 3 is offered what the search finds
-pub offered-if-bookable : (rows : List ℕ) (L p : ℕ) → Bookable rows L p → (o : Offer) → Searched rows p o → Offered rows L p o
-unfolding Searched Offered
-offered-if-bookable rows L p ready (Refused n) searched =
+-- an open that passes the checks 1, 2 and 3 comes to what the search finds
+pub checked-if-bookable : (rows : List ℕ) (L p : ℕ) → Bookable rows L p → (o : CheckedOpen) → Searched rows p o → OpenChecked rows L p o
+unfolding Searched OpenChecked
+checked-if-bookable rows L p ready (Refused n) searched =
     let number = ready .number in
     let absent = open-on-record rows (ready .is-legal) L (omega arith) ∙ ap not (ready .absent) in
     open-last-check L p (tree-of rows) number (ready .inside) absent ∙ rw (searched .1, searched .0)
-offered-if-bookable rows L p ready Root searched = (ready, searched)
-offered-if-bookable rows L p ready (At s) searched = record { bookable = ready; found-one = searched }
+checked-if-bookable rows L p ready Root searched = (ready, searched)
+checked-if-bookable rows L p ready (At s) searched = record { bookable = ready; found-one = searched }
 
--- the offer, read case by case
-module _ (rows : List ℕ) (L p : ℕ) {o : Offer} (offered : Offered rows L p o) where
-  pub offered-refusal : {n : ℕ} → o ≡ Refused n → open-refusal L p (tree-of rows) ≡ some n
-  unfolding Offered
-  offered-refusal told = rw told at offered
+-- what was found, case by case
+module _ (rows : List ℕ) (L p : ℕ) {o : CheckedOpen} (checked : OpenChecked rows L p o) where
+  pub checked-refusal : {n : ℕ} → o ≡ Refused n → open-refusal L p (tree-of rows) ≡ some n
+  unfolding OpenChecked
+  checked-refusal told = rw told at checked
 
-  pub offered-root : o ≡ Root → Bookable rows L p × ClosedFrom rows 0
-  unfolding Offered
-  offered-root told = rw told at offered
+  pub checked-root : o ≡ Root → Bookable rows L p × ClosedFrom rows 0
+  unfolding OpenChecked
+  checked-root told = rw told at checked
 
-  pub offered-spot : {s : CandidateSpot} → o ≡ At s → BookableAt rows L p (spot-in s)
-  unfolding Offered
-  offered-spot told = rw told at offered
+  pub checked-spot : {s : CandidateSpot} → o ≡ At s → BookableAt rows L p (spot-in s)
+  unfolding OpenChecked
+  checked-spot told = rw told at checked
 
 -- Under the root of an empty plan
 
 pub open-first : (rows : List ℕ) (L p : ℕ) → Bookable rows L p → length rows ≡ 1408 → ClosedFrom rows 0 → CarriedOut (open-line L p) rows (set-line rows L (row p 0 ∷ [])) (booked 0)
 open-first rows L p ready long closed =
-    open-first-on rows (ready .is-legal) long L p (ready .number) (ready .inside) (ready .absent) (none-open closed) (range-positive p (ready .inside))
+    open-first-on rows (ready .is-legal) long L p (ready .number) (ready .inside) (ready .absent) (all-closed closed) (range-positive p (ready .inside))
 
 -- At the chosen candidate
 

@@ -1,4 +1,4 @@
--- What the booking of a line rests on, between the functions of this crate.
+-- What the booking of a line rests on.
 -- Assumes nothing.
 use Prim.Native.Nat.{ℕ, _<_, _≤_}
 use mathlib.Core.Path.{_≡_}

@@ -1,3 +1,3 @@
 pub mod Answers
 pub mod Bookable
-pub mod Offers
+pub mod Checks

@@ -9,12 +9,12 @@ ghost use Rattle.bridge.specs.Rows.{CarriedOut};
 ghost use Rattle.lines.specs.Answers.{open-answer, close-answer};
 ghost use Rattle.lines.specs.Bookable.{BookableAt, SplittableIfSmaller, split-if-smaller};
 use candidates::Spot;
-use offer::Offer;
+use check::CheckedOpen;
 use paths::Found;
 use tree::Period;
 use tree::Start;
 
-pub mod offer;
+pub mod check;
 
 // What an open answers: the start of the line that was booked, or the number with which it is refused.
 pub enum OpenAnswer {
@@ -82,20 +82,20 @@ fn book_at(rows: &mut [u16; 1408], line: usize, period: Period, spot: Spot) -> O
     OpenAnswer::Booked(start)
 }
 
-// Open: refused as the offer says, with 1, 2, 3 or 5; else the line is booked, the first line of a plan under a root of its period, another one at the
+// Open: refused with 1, 2, 3 or 5, as its checks say; else the line is booked, the first line of a plan under a root of its period, another one at the
 // chosen candidate.
 pub fn open_line(rows: &mut [u16; 1408], line: u64, period: Period) -> OpenAnswer
     requires { ⌜ legal (now rows) ≡ true ⌝ }
     ensures { λ r. ⌜ CarriedOut (open-line line (period .0)) (now (rows .entry)) (now (rows .exit)) (open-answer r) ⌝ }
 {
     paths::whole(rows);
-    let offer = offer::offer_to(rows, line, period);
-    match offer {
-        Offer::Refused(number) => OpenAnswer::Refused(number),
-        Offer::Root => {
+    let checked = check::check_open(rows, line, period);
+    match checked {
+        CheckedOpen::Refused(number) => OpenAnswer::Refused(number),
+        CheckedOpen::Root => {
             booking::place_first(rows, line as usize, period);
             OpenAnswer::Booked(Start(0))
         }
-        Offer::At(spot) => book_at(rows, line as usize, period, spot),
+        CheckedOpen::At(spot) => book_at(rows, line as usize, period, spot),
     }
 }

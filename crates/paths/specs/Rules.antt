@@ -1,4 +1,4 @@
--- The rules as the code follows them, over the paths of the lines. Nothing here has to be believed: that these are document 01's rules
+-- The rules as the code follows them, over the paths of the lines. Nothing here has to be believed: that these are the rules
 -- over the tree is proved (crate bridge).
 -- Assumes nothing.
 use Prim.Native.Nat.{ℕ, zero, suc, _+_, _*_, _/_, _%_}

@@ -16,7 +16,7 @@ use Rattle.lines.specs.Answers.{open-answer}
 use Rattle.trials.specs.declared.TrialAnswer.{TrialAnswer}
 use Rattle.trials.specs.Answers.{trial-answer}
 use Rattle.plan.specs.Meets.{empty-plan, Meets}
-use Rattle.plan.specs.Tried.{TrialKept}
+use Rattle.plan.specs.Tried.{OpenedAsTried}
 use Rattle.plan.proofs.Changes.{plan-after-tree, same-tree}
 
 -- a trial that was made in the empty plan instead
@@ -24,10 +24,10 @@ pub trial-in-empty : (rows : List ℕ) (L p : ℕ) (e : Plan) (o : Outcome Trial
 trial-in-empty rows L p e o not-legal empty told =
     told ∙ ap (λ (plan : Plan). trial-outcome L p (tree-of (plan .rows))) empty ∙ ap (trial-outcome L p) (same-tree rows not-legal)
 
--- the open brings about what the trial said
-pub trial-kept : (L p : ℕ) (before : Plan) (told : TrialAnswer) (a : OpenAnswer) (after : Plan) →
-    trial-answer told ≡ trial-outcome L p (treeOf before) → Meets (open-line L p) before (open-answer a) after → TrialKept L p before told a after
-trial-kept L p before told a after told-is opened-is =
+-- the open comes to what the trial said
+pub opened-as-tried : (L p : ℕ) (before : Plan) (told : TrialAnswer) (a : OpenAnswer) (after : Plan) →
+    trial-answer told ≡ trial-outcome L p (treeOf before) → Meets (open-line L p) before (open-answer a) after → OpenedAsTried L p before told a after
+opened-as-tried L p before told a after told-is opened-is =
     record {
       told-is = told-is;
       opened-is = opened-is;

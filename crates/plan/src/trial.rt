@@ -5,7 +5,7 @@ ghost use Rattle.tree.specs.Record.{treeOf};
 ghost use Rattle.tree.specs.Trial.{trial-outcome};
 ghost use Rattle.bridge.specs.Rows.{tree-of};
 ghost use Rattle.trials.specs.Answers.{trial-answer};
-ghost use Rattle.plan.specs.Tried.{TrialKept};
+ghost use Rattle.plan.specs.Tried.{OpenedAsTried};
 use crate::change::empty;
 use crate::change::open;
 use lines::OpenAnswer;
@@ -13,8 +13,8 @@ use tree::Period;
 use tree::Plan;
 use trials::TrialAnswer;
 
-// What an open of a line in a record that is lent would bring about: its start, how many nodes more the plan would have and
-// whether a node would be split, or the number with which it would be refused: 1, 2, 3 or 5, the first that applies.
+// What an open of a line in a record that is lent would come to: its start, by how many nodes the tree would grow and if one
+// of its nodes would be split; or the number with which it would be refused: 1, 2, 3 or 5, the first that applies.
 pub fn trial_rows(rows: &[u16; 1408], line: u64, period: Period) -> TrialAnswer
     ensures { λ r. ⌜ trial-answer r ≡ trial-outcome line (period .0) (tree-of (now (rows .entry))) ⌝ }
 {
@@ -33,21 +33,21 @@ pub fn trial(plan: Plan, line: u64, period: Period) -> TrialAnswer
 }
 
 // What a trial told, and what the open after it gave.
-pub struct Tried {
+pub struct TriedThenOpened {
     pub told: TrialAnswer,
     pub answer: OpenAnswer,
     pub plan: Plan,
 }
 
-// A trial, then the open on the same plan: it brings about what the trial said.
-pub fn tried_then_opened(plan: Plan, line: u64, period: Period) -> Tried
-    ensures { λ r. ⌜ TrialKept line (period .0) plan (r .told) (r .answer) (r .plan) ⌝ }
+// A trial, then the open on the same plan, which comes to what the trial said.
+pub fn tried_then_opened(plan: Plan, line: u64, period: Period) -> TriedThenOpened
+    ensures { λ r. ⌜ OpenedAsTried line (period .0) plan (r .told) (r .answer) (r .plan) ⌝ }
 {
     let told = trial(plan, line, period);
     let opening = open(plan, line, period);
     let answer = opening.answer;
     let next = opening.plan;
-    Tried {
+    TriedThenOpened {
         told,
         answer,
         plan: next,

@@ -1,5 +1,5 @@
 -- How many nodes an open adds (specs/Trial.antt): those of the split, where the chosen node is split, and the newcomer's, where it has one.
--- So an open never lowers the number of nodes.
+-- So an open never leaves fewer nodes than there were.
 -- Assumes nothing.
 use Prim.Native.Nat.{ℕ, zero, suc, _+_, _*_, _/_, _%_, _<_, _≤_}
 use native.Mathlib.Omega.{arith}

@@ -1,4 +1,4 @@
--- What a trial told is what the open then brings about (specs/Trial.antt, document 02, Ask 3).
+-- An open comes to what the trial told (specs/Trial.antt, document 02, Ask 3).
 -- Assumes nothing.
 use Prim.Native.Nat.{ℕ}
 use native.Mathlib.Omega.{arith}

@@ -197,8 +197,8 @@ step-2047 =
     ∷ owner-of 4094 (some 1)
     ∷ []
 
--- ours: trials. In the empty plan the line gets the root; beside it the line alone, or a node of its own; a split adds a node for the class that is
--- taken, and the line again none or one. The open brings about what was told. Then each refusal, of two that apply the earlier one.
+-- ours: trials. The first line gets the root; later ones stand under the root itself or under a node of their own, without a split and with one, which adds a
+-- node for the class that is taken. The opens come to what was told. Then each refusal, of two that apply the earlier one.
 unfoldable pub tried-then-opened : List Step
 tried-then-opened =
     tries 1 6 (fits 0 1 false)

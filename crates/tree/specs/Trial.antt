@@ -1,4 +1,4 @@
--- A trial: what an open would bring about (document 02, Ask 3).
+-- A trial: what an open would come to, and that it comes to it (document 02, Ask 3).
 -- Assumes nothing.
 use Prim.Native.Nat.{ℕ, _+_, _-_}
 use mathlib.Core.Path.{_≡_}
@@ -11,13 +11,13 @@ use Rattle.tree.specs.Opening.{divisor, chosen, opened, start-given}
 use Rattle.tree.specs.Refusals.{open-refusal}
 use Rattle.tree.specs.Calls.{Answer, booked, refused, Outcome, gives, refuses, gives-unless}
 
--- (Ask 3, 2) What is told of an open that is not refused: the start, how many nodes more the tree would have, and whether a node would be split.
+-- (Ask 3, 2) The figures of an open that is not refused: its start, by how many nodes the tree grows, and if one of its nodes is split.
 pub record Trial : Type 0 where
   pub start : ℕ
   pub added : ℕ
   pub split : Bool
 
--- (Opening a line, 6) A booking of period p into a node of step m splits it: d is below its weight.
+-- (Ask 3, 2) A booking of period p into a node of step m splits it: d is below its weight.
 unfoldable pub is-split : ℕ → ℕ → Tree → Bool
 is-split p m nothing = false
 is-split p m (line n) = false
@@ -28,7 +28,8 @@ unfoldable pub split-in : ℕ → Tree → Option Place → Bool
 split-in p t none = false
 split-in p t (some a) = is-split p (step a t) (at a t)
 
--- (Ask 3, 2, 4) The figures are those of the opened tree. That an open never has fewer nodes is proved (proofs/NodesAdded.antt).
+-- (Ask 3, 2) The start that open answers, the nodes of the opened tree less those of the tree, and d < w at the chosen node.
+-- That the opened tree never has fewer nodes is proved (proofs/NodesAdded.antt).
 unfoldable pub trial : ℕ → ℕ → Tree → Trial
 trial L p t =
     record {
@@ -41,7 +42,7 @@ trial L p t =
 unfoldable pub trial-outcome : ℕ → ℕ → Tree → Outcome Trial
 trial-outcome L p t = gives-unless (open-refusal L p t) (trial L p t)
 
--- What the open then brings about
+-- The open made next
 
 -- the weight of the node at a place, none where no node stands there
 unfoldable pub weight-of : Tree → Option ℕ
@@ -61,7 +62,7 @@ pub record NodeSplit (before after : Tree) : Type 0 where
   pub weight-after : weight-at place after ≡ some new-weight
   pub another : new-weight ≡ weight → ⊥
 
--- (Ask 3, 4) An open that answered a, and led from one tree to another, is what the trial said.
+-- (Ask 3, 4) An open that answered a, and led from one tree to another, came to what the trial said.
 unfoldable pub BroughtAbout : Outcome Trial → Answer → Tree → Tree → Type 0
 BroughtAbout (refuses n) a before after = (a ≡ refused n) × (after ≡ before)
 BroughtAbout (gives told) a before after =

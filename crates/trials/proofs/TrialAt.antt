@@ -21,13 +21,13 @@ use Rattle.paths.proofs.PathRows.{weight-read}
 pub below-65536 : (n : ℕ) → n ≤ 4096 → n < 65536
 below-65536 n most = omega arith
 
-pub factor-positive : (m d : ℕ) → 0 < m * d → 0 < d
-factor-positive m zero positive = absurd (omega (arith, mul-zero m))
-factor-positive m (suc d) positive = omega arith
+pub divisor-positive : (m d : ℕ) → 0 < m * d → 0 < d
+divisor-positive m zero positive = absurd (omega (arith, mul-zero m))
+divisor-positive m (suc d) positive = omega arith
 
-pub factor-at-most : (m d : ℕ) → 0 < m * d → d ≤ m * d
-factor-at-most zero d positive = absurd (omega (arith, zero-mul d))
-factor-at-most (suc m) d positive = omega (arith, suc-mul m d)
+pub divisor-at-most : (m d : ℕ) → 0 < m * d → d ≤ m * d
+divisor-at-most zero d positive = absurd (omega (arith, zero-mul d))
+divisor-at-most (suc m) d positive = omega (arith, suc-mul m d)
 
 -- there are at most d classes
 pub classes-at-most : (family : Family) (ps : List Row) (l d : ℕ) {groups : ℕ} → groups ≡ classes-taken family ps l d → groups ≤ d

@@ -1,4 +1,4 @@
--- The ways that a trial can go on a legal record, by what is offered to the open.
+-- The ways that a trial can go on a legal record, by what the checks and the search of the open find.
 -- Assumes nothing.
 use Prim.Native.Nat.{ℕ}
 use native.Mathlib.Omega.{arith}
@@ -22,7 +22,7 @@ use Rattle.bridge.proofs.CallsOnRecords.{first-not-refused, spot-found, not-ref
 use Rattle.bridge.proofs.TrialOnPaths.{trial-at-is}
 use Rattle.candidates.specs.Edges.{ClosedFrom}
 use Rattle.lines.specs.Bookable.{Bookable, BookableAt}
-use Rattle.lines.proofs.OpenLine.{none-open, product-fits, product-not-zero, start-fits, spot-splittable}
+use Rattle.lines.proofs.OpenLine.{all-closed, product-fits, product-not-zero, start-fits, spot-splittable}
 use Rattle.trials.specs.Tryable.{Tryable}
 
 module _ (rows : List ℕ) (L p : ℕ) where
@@ -43,9 +43,9 @@ module _ (rows : List ℕ) (L p : ℕ) where
   pub trial-first : Bookable rows L p → length rows ≡ 1408 → ClosedFrom rows 0 → gives (record { start = 0; added = 1; split = false }) ≡ trial-outcome L p (tree-of rows)
   unfolding tree-of
   trial-first ready long closed =
-      let empty = all-closed-nothing (plan-of rows) (ready .is-legal) (none-open closed) in
+      let empty = all-closed-nothing (plan-of rows) (ready .is-legal) (all-closed closed) in
       sym (ap gives (ap (trial L p) empty ∙ first-trial))
-      ∙ not-refused-gives (first-not-refused rows (ready .is-legal) long L p (ready .number) (ready .inside) (ready .absent) (none-open closed))
+      ∙ not-refused-gives (first-not-refused rows (ready .is-legal) long L p (ready .number) (ready .inside) (ready .absent) (all-closed closed))
 
   -- At the chosen candidate
 

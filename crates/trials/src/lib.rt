@@ -11,21 +11,21 @@ ghost use Rattle.trials.specs.Answers.{trial-told, trial-answer};
 ghost use Rattle.trials.specs.Tryable.{Tryable};
 use candidates::Spot;
 use candidates::edges;
-use lines::offer::Offer;
+use lines::check::CheckedOpen;
 use paths::edge;
 use paths::same_node;
 use paths::weight;
 use tree::Period;
 use tree::Start;
 
-// What a trial tells: the start, how many nodes more the plan would have, and whether a node would be split.
+// The figures of an open that fits: its start, by how many nodes the tree would grow, and if one of its nodes would be split.
 pub struct Trial {
     pub start: Start,
     pub added: u16,
     pub split: bool,
 }
 
-// What a trial answers: what the open would bring about, or the number with which it would be refused.
+// What a trial answers: these figures, or the number with which the open would be refused.
 pub enum TrialAnswer {
     Fits(Trial),
     Refused(u8),
@@ -89,22 +89,22 @@ fn trial_at(rows: &[u16; 1408], period: Period, spot: Spot) -> Trial
     }
 }
 
-// A trial: refused as the open would be; else told of the first line of a plan, which gets the root, or of the chosen candidate.
+// A trial: the open's refusal; or the figures of a first line, which gets the root; or those of a booking at the chosen candidate.
 pub fn trial_line(rows: &[u16; 1408], line: u64, period: Period) -> TrialAnswer
     requires { ⌜ legal (now rows) ≡ true ⌝ }
     ensures { λ r. ⌜ trial-answer r ≡ trial-outcome line (period .0) (tree-of (now (rows .entry))) ⌝ }
 {
     paths::whole(rows);
-    let offer = lines::offer::offer_to(rows, line, period);
-    match offer {
-        Offer::Refused(number) => TrialAnswer::Refused(number),
-        Offer::Root => {
+    let checked = lines::check::check_open(rows, line, period);
+    match checked {
+        CheckedOpen::Refused(number) => TrialAnswer::Refused(number),
+        CheckedOpen::Root => {
             TrialAnswer::Fits(Trial {
                 start: Start(0),
                 added: 1,
                 split: false,
             })
         }
-        Offer::At(spot) => TrialAnswer::Fits(trial_at(rows, period, spot)),
+        CheckedOpen::At(spot) => TrialAnswer::Fits(trial_at(rows, period, spot)),
     }
 }

@@ -5,7 +5,7 @@ use mir.Syntax.{w16}
 use borrow.Author.Needs.{needs, fits-under}
 use borrow.Author.Tests.{not-true, not-false}
 use Rattle.paths.proofs.PathRows.{within-path}
-use Rattle.trials.proofs.TrialAt.{below-65536, factor-positive, factor-at-most, told-whole, told-split, classes-at-most, own-at-most}
+use Rattle.trials.proofs.TrialAt.{below-65536, divisor-positive, divisor-at-most, told-whole, told-split, classes-at-most, own-at-most}
 use Rattle.trials.proofs.trial_at.Statement.{statement}
 use Rattle.trials.proofs.trial_at.Tie as tie
 
@@ -34,8 +34,8 @@ returns c =
 classes-taken-requires : tie.Need-classes-taken-requires
 classes-taken-requires c κs =
     let ready = c .before .before .before .before .before .pre in
-    let positive = factor-positive _ _ (ready .product-positive) in
-    let most = factor-at-most _ _ (ready .product-positive) in
+    let positive = divisor-positive _ _ (ready .product-positive) in
+    let most = divisor-at-most _ _ (ready .product-positive) in
     (ready .line-below, within-path _ _ (ready .on-path), omega arith, omega (arith, ready .product-in-range))
 
 add-added : tie.Need-add-added
@@ -44,7 +44,7 @@ add-added c =
     let ready = owned .before .before .before .pre in
     let groups = classes-at-most _ _ _ _ (c .classes-taken .ensures) in
     let own = own-at-most _ (owned .own-nodes .ensures) in
-    let most = factor-at-most _ _ (ready .product-positive) in
+    let most = divisor-at-most _ _ (ready .product-positive) in
     fits-under w16 _ _ (below-65536 _ (omega (arith, ready .product-in-range))) tt
 
 returns-2 : tie.Need-returns-2

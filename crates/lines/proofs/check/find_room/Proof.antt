@@ -1,12 +1,12 @@
--- `lines::offer::find_candidate` meets its contract: no line is open, or the search found nothing, or a spot.
+-- `lines::check::find_room` meets its contract: no line is open, or the search found nothing, or a spot.
 -- Assumes nothing.
 use mathlib.Core.Path.{refl, sym, _∙_, ap}
 use borrow.Author.Needs.{needs}
 use Rattle.candidates.specs.Answers.{spot-of}
-use Rattle.lines.specs.Offers.{Searched}
+use Rattle.lines.specs.Checks.{Searched}
 use Rattle.lines.proofs.OpenLine.{root-found, no-room-found}
-use Rattle.lines.proofs.offer.find_candidate.Statement.{statement}
-use Rattle.lines.proofs.offer.find_candidate.Tie as tie
+use Rattle.lines.proofs.check.find_room.Statement.{statement}
+use Rattle.lines.proofs.check.find_room.Tie as tie
 
 lines-end-requires : tie.Need-lines-end-requires
 lines-end-requires c κs = search needs
@@ -39,8 +39,8 @@ returns-3 : tie.Need-returns-3
 unfolding Searched spot-of
 returns-3 c = sym (c .before .before .before .best-candidate .ensures) ∙ ap spot-of (c .before .chosen .given .1)
 
-pub find-candidate-spec : {M : Type 1} → statement M
-find-candidate-spec =
+pub find-room-spec : {M : Type 1} → statement M
+find-room-spec =
     tie.close
     (tie.spec
     lines-end-requires
