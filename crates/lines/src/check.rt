@@ -31,7 +31,7 @@ fn find_room(rows: &[u16; 1408], period: Period) -> CheckedOpen
     CheckedOpen::At(spot)
 }
 
-// Refused with 1 for a line above 63, 2 for a period out of range, 3 for a line that is open, 5 where there is no candidate.
+// The checks of an open and the search: refused with 1 for a line above 63, 2 for a period out of range, 3 for a line that is open, 5 where there is no candidate.
 pub fn check_open(rows: &[u16; 1408], line: u64, period: Period) -> CheckedOpen
     requires { ⌜ legal (now rows) ≡ true ⌝ }
     ensures { λ r. ⌜ OpenChecked (now (rows .entry)) line (period .0) r ⌝ }

@@ -108,7 +108,7 @@ booked-at rows L p s =
 
 -- A trial, over the paths
 
--- how many classes modulo d lines take at the node at level l of path ps
+-- how many of the classes modulo d are taken by lines, at the node at level l of path ps
 unfoldable pub classes-taken : Family → List Row → ℕ → ℕ → ℕ
 classes-taken family ps l d = count-below d (class-taken family ps l d)
 
@@ -116,7 +116,7 @@ classes-taken family ps l d = count-below d (class-taken family ps l d)
 unfoldable pub own-nodes : ℕ → ℕ
 own-nodes q = if eqb q 1 then 0 else 1
 
--- what a booking of period p at a spot brings about: a node for each class taken where the node is split, and the line's own
+-- the figures of a booking of period p at a spot: a node for each class taken where the node is split, and the line's own
 unfoldable pub trial-at : Family → ℕ → Spot → Trial
 trial-at family p s =
     let ps = family (s .line) in

@@ -1,4 +1,4 @@
-// What an open would bring about, told from the lent array of a legal plan record. The nodes are counted and not built, and nothing is written.
+// What an open would come to, told from the lent array of a legal plan record. The nodes are counted and not built, and nothing is written.
 ghost use mathlib.Core.Path.{_≡_};
 ghost use mathlib.Core.Bool.{true};
 ghost use Prim.Native.Nat.{_<_};
@@ -31,7 +31,7 @@ pub enum TrialAnswer {
     Refused(u8),
 }
 
-// How many classes modulo d lines take at the node at a level of a line's path. A class counts when the first line that takes it is met.
+// How many of the classes modulo d are taken by lines, at the node at a level of a line's path. A class counts when the first line that takes it is met.
 fn classes_taken(rows: &[u16; 1408], line: usize, level: usize, d: u16) -> u16
     requires { ⌜ (line < 64) × (level < 11) × (0 < d) × (d < 4096) ⌝ }
     ensures { λ r. ⌜ r ≡ classes-taken (path-at (now (rows .entry))) (path-at (now (rows .entry)) line) level d ⌝ }
@@ -62,7 +62,7 @@ fn own_nodes(q: u16) -> u16
     0
 }
 
-// What a booking at the chosen candidate would bring about. A split adds a node for each class that lines take.
+// The figures of a booking at the chosen candidate. A split adds a node for each class that lines take.
 fn trial_at(rows: &[u16; 1408], period: Period, spot: Spot) -> Trial
     requires { ⌜ Tryable (now rows) (spot-in spot) ⌝ }
     ensures { λ r. ⌜ trial-told r ≡ trial-at (path-at (now (rows .entry))) (period .0) (spot-in spot) ⌝ }
