@@ -82,8 +82,8 @@ typedef struct gaplinte_plan {
     gaplinte_row paths[GAPLINTE_LINES][GAPLINTE_ROWS];
 } gaplinte_plan;
 
-/* What trial writes: the start that the open would answer, by how many nodes the tree would grow, and 1 where it would
- * split a node, else 0. */
+/* What trial writes: the start that the open would answer, how many nodes it would add, and 1 where it would split one,
+ * else 0. */
 typedef struct gaplinte_tried {
     uint16_t start;
     uint16_t added;
@@ -157,7 +157,7 @@ static inline const char *gaplinte_refusal_text(int64_t answer) {
 /* Opens a line with a period of 1 to 4,095 rounds. The value is its start. Refused with 1, 2, 3 or 5. */
 GAPLINTE_NODISCARD int64_t gaplinte_open(gaplinte_plan *plan, uint64_t line, uint64_t period);
 
-/* Tries a line with a period: what the open would come to is written, and the plan is only read. The value is 0.
+/* Tries a line with a period: what the open would do is written, and the plan is only read. The value is 0.
  * Refused with 1, 2, 3 or 5, as the open would be. */
 GAPLINTE_NODISCARD int64_t gaplinte_trial(const gaplinte_plan *plan, uint64_t line, uint64_t period,
                                           gaplinte_tried *tried);

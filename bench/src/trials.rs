@@ -10,7 +10,7 @@ use std::hint::black_box;
 const LINE: u64 = 63;
 const REPETITIONS: usize = 1_000;
 
-/// What the open comes to.
+/// What the open does.
 #[derive(Clone, Copy, Debug, PartialEq, Eq)]
 enum Outcome {
     Whole,
@@ -30,15 +30,15 @@ fn outcome(rows: &Record, period: u64) -> Outcome {
     }
 }
 
-/// The smallest period above 1 whose open comes to this.
+/// The smallest period above 1 whose open does this.
 fn period_for(rows: &Record, wanted: Outcome) -> u64 {
     let mut periods = 2..4_096;
     let period = periods.find(|&period| outcome(rows, period) == wanted);
-    period.expect("some open comes to this")
+    period.expect("some open does this")
 }
 
 /// The trial tells the open's start and split, or its refusal.
-fn assert_open_comes_to_what_was_tried(rows: &Record, period: u64) {
+fn assert_open_does_what_was_told(rows: &Record, period: u64) {
     let mut tried = [0; 3];
     let told = raw::trial(rows, LINE, period, &mut tried);
     let answer = (LIBRARY.open)(&mut rows.clone(), LINE, period);
@@ -64,7 +64,7 @@ fn on_copies(rows: Record, call: impl Fn(&mut Record) -> i64 + 'static) -> Task 
 
 fn measure_one(plan: &str, rows: Record, wanted: Outcome) {
     let period = period_for(&rows, wanted);
-    assert_open_comes_to_what_was_tried(&rows, period);
+    assert_open_does_what_was_told(&rows, period);
     let trial = on_copies(rows, move |copy| {
         raw::trial(copy, LINE, black_box(period), black_box(&mut [0; 3]))
     });

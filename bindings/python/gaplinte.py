@@ -73,7 +73,7 @@ class Row(NamedTuple):
 
 
 class Trial(NamedTuple):
-    """What an open would come to: its start, by how many nodes the tree would grow, whether it would split one."""
+    """What an open would do: its start, how many nodes it would add, whether it would split one."""
 
     start: int
     added: int
@@ -231,7 +231,7 @@ class Plan:
         return _value(_library.gaplinte_open(self._record, _number(line), _number(period)))
 
     def trial(self, line: int, period: int) -> Trial:
-        """What the open of a line with a period would come to; the plan is only read. Refused as open is."""
+        """What the open of a line with a period would do; the plan is only read. Refused as open is."""
         tried = _TriedRecord()
         _value(_library.gaplinte_trial(self._record, _number(line), _number(period), tried))
         return Trial(tried.start, tried.added, tried.split == 1)

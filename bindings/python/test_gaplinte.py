@@ -222,7 +222,7 @@ class Trials(Case):
         return nodes
 
     def tried(self, plan, line, period):
-        """What a trial tells; the plan stays as found, and the open then brings it about."""
+        """What a trial tells; the plan stays as found, and an open does what was told."""
         before, after = copy.copy(plan), copy.copy(plan)
         told = plan.trial(line, period)
         self.assertEqual(plan, before)

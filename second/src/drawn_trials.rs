@@ -93,8 +93,7 @@ mod tests {
         Shape::ALL.map(|shape| generated(1, 10, shape)).concat()
     }
 
-    /// All answers with the figures that a small plan can bring about, on plans that a list
-    /// leaves and on damaged records.
+    /// Each refusal and each of the small figures is among the answers.
     #[test]
     fn every_kind_of_answer_is_told() {
         let text = answers(&stored());

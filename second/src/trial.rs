@@ -1,4 +1,4 @@
-//! Document 02, Ask 3: what an open would bring about, found on a copy of the plan.
+//! Document 02, Ask 3: what an open would do, found on a copy of the plan.
 
 use crate::refusal::Refusal;
 use crate::tree::{check_period, Node, Plan, Start, Under};
@@ -12,7 +12,7 @@ pub struct Trial {
     pub split: bool,
 }
 
-/// The copy is what the open changes, so that all is as it would be and the plan stays
+/// The open is made on a copy, so that the figures are its own and the plan stays
 /// (Ask 3, 3 and 4).
 pub fn trial(plan: &Plan, line: u64, period: u64) -> Result<Trial, Refusal> {
     let mut opened = plan.clone();
@@ -121,7 +121,7 @@ mod tests {
         tried(&plan, &[(2, Ok((1, 0, WHOLE))), (4, Ok((1, 1, WHOLE)))]);
     }
 
-    /// Each power adds its node; under 11 nodes another line takes an edge that is there.
+    /// Each power adds its node; another line then takes the free edge of the deepest node.
     #[test]
     fn case_f() {
         let powers: Vec<u64> = (1..=11).map(|power| 1 << power).collect();
@@ -194,7 +194,8 @@ mod tests {
         tried(&plan, &[(4, Ok((3, 1, SPLIT))), (8, Ok((3, 2, SPLIT)))]);
     }
 
-    /// The open is made, and its plan compared with the one before, by level and offset.
+    /// The open is made, and its plan compared with the one before, by level and offset. Start and
+    /// refusal cannot differ here, since the trial opens too.
     fn assert_brought_about(plan: &Plan, line: u64, period: u64) {
         let told = trial(plan, line, period);
         let mut after = plan.clone();

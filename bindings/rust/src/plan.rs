@@ -24,12 +24,12 @@ pub struct Row {
     pub edge: u16,
 }
 
-/// What an open would come to.
+/// What an open would do.
 #[derive(Clone, Copy, Debug, PartialEq, Eq, Hash)]
 pub struct Trial {
     /// The start that it would answer.
     pub start: Start,
-    /// By how many nodes the tree would grow.
+    /// How many nodes it would add.
     pub added: u16,
     /// Whether it would split a node.
     pub split: bool,
@@ -96,7 +96,7 @@ impl Plan {
         outcome(raw::open(&mut self.rows, line.0, period.0)).map(Start)
     }
 
-    /// Tries a line: tells what [`Plan::open`] with the same line and period would come to. The plan is only read.
+    /// Tries a line: tells what [`Plan::open`] with the same line and period would do. The plan is only read.
     ///
     /// ```
     /// use gaplinte::{Line, Period, Plan, Refusal, Start, Trial};

@@ -16,7 +16,7 @@ pub fn is_marked(marks: &[u64; 64], edge: usize) -> bool
     (word >> (edge % 64)) % 2 == 1
 }
 
-// Marks an edge as well. A trial marks classes by it.
+// Marks an edge as well. A trial marks classes with it.
 pub fn mark(marks: &mut [u64; 64], edge: usize)
     requires { ⌜ edge < 4096 ⌝ }
     ensures { λ _. ⌜ now (marks .exit) ≡ with-mark (now (marks .entry)) edge ⌝ }

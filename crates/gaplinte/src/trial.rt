@@ -1,4 +1,4 @@
-// The call that tells what an open would come to.
+// The call that tells what an open would do.
 ghost use mathlib.Core.Path.{_≡_};
 ghost use Rattle.trials.specs.Answers.{trial-told};
 ghost use Rattle.gaplinte.specs.Served.{tried-numbers, TrialServed};

@@ -1,4 +1,4 @@
--- A trial in the library and then the open (specs/TriedInLibrary.antt): what is read out of the numbers is what the rules give, so the open comes to it.
+-- A trial in the library and then the open (specs/TriedInLibrary.antt): what is read out of the numbers is what the rules give, so the open does what was read.
 -- Assumes nothing.
 use Prim.Native.Nat.{ℕ, zero, suc, _<_}
 use native.Mathlib.Omega.{arith}
@@ -12,10 +12,9 @@ use Rattle.tree.specs.Search.{if_then_else_}
 use Rattle.tree.specs.Refusals.{open-refusal}
 use Rattle.tree.specs.Calls.{open-line, refusal, gives, refuses, gives-unless}
 use Rattle.tree.specs.Trial.{Trial, trial, trial-outcome}
-use Rattle.tree.proofs.Trials.{open-brings-about}
 use Rattle.bridge.specs.Rows.{plan-of, tree-of}
-use Rattle.bridge.proofs.TreeOfRecord.{legal-on-record}
-use Rattle.plan.proofs.Changes.{carried-meets, plan-after-tree}
+use Rattle.plan.proofs.Changes.{carried-meets}
+use Rattle.plan.proofs.Trials.{open-as-told}
 use Rattle.lists.proofs.AnswersFit.{Small, refusal-small}
 use Rattle.gaplinte.specs.Answer.{answer-number, zero-value, numbers-or}
 use Rattle.gaplinte.specs.Served.{tried-numbers}
@@ -53,5 +52,4 @@ pub opened-as-tried-in-library : OpenedAsTriedInLibrary
 unfolding OpenedAsTriedInLibrary tree-of
 opened-as-tried-in-library L p before lent tried after r s told served =
     let meets = carried-meets (open-line L p) (plan-of before) after _ (served-is-carried-out (open-line L p) before after s served) in
-    rw (told .answer-is, told .tried-is, outcome-is-told L p before lent, meets .answer-is, meets .plan-is, plan-after-tree (open-line L p) (plan-of before))
-    (open-brings-about L p (tree-of before) (legal-on-record before))
+    rw (told .answer-is, told .tried-is, outcome-is-told L p before lent) (open-as-told L p (plan-of before) _ (plan-of after) meets)

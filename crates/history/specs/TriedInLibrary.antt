@@ -16,7 +16,7 @@ unfoldable pub tried-told : ℤ → List ℕ → Outcome Trial
 tried-told (pos n) tried = gives (record { start = getD tried 0 0; added = getD tried 1 0; split = eqb (getD tried 2 0) 1 })
 tried-told (negsuc n) tried = refuses (suc n)
 
--- (Ask 3, 4) The trial answered r and left three numbers, then the open on that record answered s: it came to what the caller read out of the trial.
+-- (Ask 3, 4) The trial answered r and left three numbers, then the open on that record answered s: it did what the caller read out of the trial.
 unfoldable pub OpenedAsTriedInLibrary : Type 0
 OpenedAsTriedInLibrary =
     (L p : ℕ) (before lent tried after : List ℕ) (r s : ℤ) → TrialServed before L p lent tried r → ChangeServed (open-line L p) before after s →

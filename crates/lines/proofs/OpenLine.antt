@@ -55,7 +55,7 @@ pub open-again : (rows : List ℕ) (L p : ℕ) → legal rows ≡ true → L ≤
 open-again rows L p is-legal number inside there =
     open-refused-3 L p (tree-of rows) number inside (open-on-record rows is-legal L (omega arith) ∙ ap not there)
 
--- an open that passes the checks 1, 2 and 3 comes to what the search finds
+-- an open that passes the checks 1, 2 and 3 finds what the search finds
 pub checked-if-bookable : (rows : List ℕ) (L p : ℕ) → Bookable rows L p → (o : CheckedOpen) → Searched rows p o → OpenChecked rows L p o
 unfolding Searched OpenChecked
 checked-if-bookable rows L p ready (Refused n) searched =

@@ -1,5 +1,5 @@
-// What an open finds in the lent array of a legal plan record before anything is written: its checks in their sequence, and
-// the search for a candidate. Open and trial share it.
+// The checks of an open in their sequence, and its search for a candidate, in the lent array of a legal plan record. Open and
+// trial share them; nothing is written.
 ghost use mathlib.Core.Path.{_≡_};
 ghost use mathlib.Core.Bool.{true};
 ghost use Rattle.tree.specs.Record.{legal};
@@ -8,7 +8,7 @@ use candidates::Chosen;
 use candidates::Spot;
 use tree::Period;
 
-// What an open comes to before anything is written: the number with which it is refused, the root of an empty plan, or the chosen candidate.
+// What an open finds before anything is written: the number with which it is refused, the root of an empty plan, or the chosen candidate.
 pub enum CheckedOpen {
     Refused(u8),
     Root,

@@ -5,8 +5,8 @@ use mathlib.Core.Path.{_≡_, _∙_, ap}
 use mathlib.Core.Bool.{false}
 use mathlib.Core.List.{List}
 use Rattle.tree.specs.declared.Plan.{Plan}
-use Rattle.tree.specs.Calls.{open-line, Outcome}
-use Rattle.tree.specs.Trial.{Trial, trial-outcome}
+use Rattle.tree.specs.Calls.{open-line, Answer, Outcome}
+use Rattle.tree.specs.Trial.{Trial, trial-outcome, BroughtAbout}
 use Rattle.tree.specs.Record.{legal, treeOf}
 use Rattle.tree.proofs.Trials.{open-brings-about}
 use Rattle.bridge.specs.Rows.{tree-of}
@@ -24,13 +24,16 @@ pub trial-in-empty : (rows : List ℕ) (L p : ℕ) (e : Plan) (o : Outcome Trial
 trial-in-empty rows L p e o not-legal empty told =
     told ∙ ap (λ (plan : Plan). trial-outcome L p (tree-of (plan .rows))) empty ∙ ap (trial-outcome L p) (same-tree rows not-legal)
 
--- the open comes to what the trial said
+-- an open that meets its promise does what the trial tells of it
+pub open-as-told : (L p : ℕ) (before : Plan) (a : Answer) (after : Plan) → Meets (open-line L p) before a after → BroughtAbout (trial-outcome L p (treeOf before)) a (treeOf before) (treeOf after)
+open-as-told L p before a after opened-is =
+    rw (opened-is .answer-is, opened-is .plan-is, plan-after-tree (open-line L p) before) (open-brings-about L p (treeOf before) (treeOf-legal before))
+
 pub opened-as-tried : (L p : ℕ) (before : Plan) (told : TrialAnswer) (a : OpenAnswer) (after : Plan) →
     trial-answer told ≡ trial-outcome L p (treeOf before) → Meets (open-line L p) before (open-answer a) after → OpenedAsTried L p before told a after
 opened-as-tried L p before told a after told-is opened-is =
     record {
       told-is = told-is;
       opened-is = opened-is;
-      brought-about =
-          rw (told-is, opened-is .answer-is, opened-is .plan-is, plan-after-tree (open-line L p) before) (open-brings-about L p (treeOf before) (treeOf-legal before));
+      brought-about = rw told-is (open-as-told L p before (open-answer a) after opened-is);
     }

@@ -13,8 +13,8 @@ use tree::Period;
 use tree::Plan;
 use trials::TrialAnswer;
 
-// What an open of a line in a record that is lent would come to: its start, by how many nodes the tree would grow and if one
-// of its nodes would be split; or the number with which it would be refused: 1, 2, 3 or 5, the first that applies.
+// What an open of a line in a record that is lent would do: its start, how many nodes it would add and if it would
+// split one; or the number with which it would be refused: 1, 2, 3 or 5, the first that applies.
 pub fn trial_rows(rows: &[u16; 1408], line: u64, period: Period) -> TrialAnswer
     ensures { λ r. ⌜ trial-answer r ≡ trial-outcome line (period .0) (tree-of (now (rows .entry))) ⌝ }
 {
@@ -39,7 +39,7 @@ pub struct TriedThenOpened {
     pub plan: Plan,
 }
 
-// A trial, then the open on the same plan, which comes to what the trial said.
+// A trial, then the open on the same plan, which does what the trial said.
 pub fn tried_then_opened(plan: Plan, line: u64, period: Period) -> TriedThenOpened
     ensures { λ r. ⌜ OpenedAsTried line (period .0) plan (r .told) (r .answer) (r .plan) ⌝ }
 {

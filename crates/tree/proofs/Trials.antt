@@ -1,4 +1,4 @@
--- An open comes to what the trial told (specs/Trial.antt, document 02, Ask 3).
+-- An open does what the trial told (specs/Trial.antt, document 02, Ask 3).
 -- Assumes nothing.
 use Prim.Native.Nat.{ℕ}
 use native.Mathlib.Omega.{arith}
@@ -25,8 +25,8 @@ module _ (L p : ℕ) where
 
   module _ (t : Tree) (may : MayOpen L p t) (here : present t ≡ true) (a : Place) (is-chosen : chosen p t ≡ some a) where
     -- the chosen node is the one that was split
-    split-node : is-split p (step a t) (at a t) ≡ true → NodeSplit t (opened L p t)
-    split-node is =
+    split-if-told : is-split p (step a t) (at a t) ≡ true → NodeSplit t (opened L p t)
+    split-if-told is =
         let x = chosen-weights L p t a may here is-chosen in
         record {
           place = a;
@@ -38,8 +38,8 @@ module _ (L p : ℕ) where
         }
 
     -- where the chosen node is not split, no node has another weight
-    node-split : NodeSplit t (opened L p t) → is-split p (step a t) (at a t) ≡ true
-    node-split x = go (is-split p (step a t) (at a t)) refl
+    told-if-split : NodeSplit t (opened L p t) → is-split p (step a t) (at a t) ≡ true
+    told-if-split x = go (is-split p (step a t) (at a t)) refl
       where
         go : (b : Bool) → is-split p (step a t) (at a t) ≡ b → is-split p (step a t) (at a t) ≡ true
         go true e = e
@@ -54,7 +54,7 @@ module _ (L p : ℕ) where
   told-split (line n) may = absurd (may .legal)
   told-split (node w f) may =
       let x = room-chosen p (node w f) refl (may .has-room) in
-      rw (x .1) (split-node (node w f) may refl (x .0) (x .1), node-split (node w f) may refl (x .0) (x .1))
+      rw (x .1) (split-if-told (node w f) may refl (x .0) (x .1), told-if-split (node w f) may refl (x .0) (x .1))
 
 -- the open answers, adds and splits as the trial told, and is refused with the same number where the trial is refused
 pub open-brings-about : (L p : ℕ) (t : Tree) → Legal t → BroughtAbout (trial-outcome L p t) (answer (open-line L p) t) t (after (open-line L p) t)

@@ -198,7 +198,7 @@ step-2047 =
     ∷ []
 
 -- ours: trials. The first line gets the root; later ones stand under the root itself or under a node of their own, without a split and with one, which adds a
--- node for the class that is taken. The opens come to what was told. Then each refusal, of two that apply the earlier one.
+-- node for the class that is taken. The opens do what was told. Then each refusal, of two that apply the earlier one.
 unfoldable pub tried-then-opened : List Step
 tried-then-opened =
     tries 1 6 (fits 0 1 false)

@@ -1,4 +1,4 @@
--- A trial: what an open would come to, and that it comes to it (document 02, Ask 3).
+-- A trial: what an open would do, and what is meant by its doing so (document 02, Ask 3).
 -- Assumes nothing.
 use Prim.Native.Nat.{ℕ, _+_, _-_}
 use mathlib.Core.Path.{_≡_}
@@ -11,7 +11,7 @@ use Rattle.tree.specs.Opening.{divisor, chosen, opened, start-given}
 use Rattle.tree.specs.Refusals.{open-refusal}
 use Rattle.tree.specs.Calls.{Answer, booked, refused, Outcome, gives, refuses, gives-unless}
 
--- (Ask 3, 2) The figures of an open that is not refused: its start, by how many nodes the tree grows, and if one of its nodes is split.
+-- (Ask 3, 2) The figures of an open that is not refused: its start, how many nodes it adds, and if it splits one.
 pub record Trial : Type 0 where
   pub start : ℕ
   pub added : ℕ
@@ -28,7 +28,7 @@ unfoldable pub split-in : ℕ → Tree → Option Place → Bool
 split-in p t none = false
 split-in p t (some a) = is-split p (step a t) (at a t)
 
--- (Ask 3, 2) The start that open answers, the nodes of the opened tree less those of the tree, and d < w at the chosen node.
+-- (Ask 3, 2) start: what open answers; added: how many nodes more the opened tree has; split: d is below w in the chosen candidate.
 -- That the opened tree never has fewer nodes is proved (proofs/NodesAdded.antt).
 unfoldable pub trial : ℕ → ℕ → Tree → Trial
 trial L p t =
@@ -53,7 +53,7 @@ weight-of (node w f) = some w
 unfoldable pub weight-at : Place → Tree → Option ℕ
 weight-at a t = weight-of (at a t)
 
--- some node was split: it has another weight than before
+-- a node was split: at some place a node stands before and after, with another weight
 pub record NodeSplit (before after : Tree) : Type 0 where
   pub place : Place
   pub weight : ℕ
@@ -62,7 +62,7 @@ pub record NodeSplit (before after : Tree) : Type 0 where
   pub weight-after : weight-at place after ≡ some new-weight
   pub another : new-weight ≡ weight → ⊥
 
--- (Ask 3, 4) An open that answered a, and led from one tree to another, came to what the trial said.
+-- (Ask 3, 4) An open that answered a, and led from one tree to another, did what the trial said.
 unfoldable pub BroughtAbout : Outcome Trial → Answer → Tree → Tree → Type 0
 BroughtAbout (refuses n) a before after = (a ≡ refused n) × (after ≡ before)
 BroughtAbout (gives told) a before after =

@@ -1,4 +1,4 @@
-// What an open would come to, told from the lent array of a legal plan record. The nodes are counted and not built, and nothing is written.
+// What an open would do, told from the lent array of a legal plan record. The nodes are counted and not built, and nothing is written.
 ghost use mathlib.Core.Path.{_≡_};
 ghost use mathlib.Core.Bool.{true};
 ghost use Prim.Native.Nat.{_<_};
@@ -18,7 +18,7 @@ use paths::weight;
 use tree::Period;
 use tree::Start;
 
-// The figures of an open that fits: its start, by how many nodes the tree would grow, and if one of its nodes would be split.
+// The figures of an open that is not refused: its start, how many nodes it would add, and if it would split one.
 pub struct Trial {
     pub start: Start,
     pub added: u16,
