@@ -1,4 +1,4 @@
--- What a trial counts on the paths (`trial-at` of crate paths, specs/Rules.antt) is what the open at the chosen candidate brings about.
+-- What a trial counts on the paths (`trial-at` of crate paths, specs/Rules.antt) are the figures of the open at the chosen candidate.
 -- Assumes nothing.
 use Prim.Native.Nat.{ℕ}
 use mathlib.Core.Path.{_≡_, sym, _∙_, ap, fun-ext}

@@ -97,8 +97,8 @@ module _ (rows : List ℕ) (L p q : ℕ) (lent : List ℕ) (asked : q ≡ (if lt
       let given = tried ∙ same-trial in
       record { answer-is = zero-told _ r told given is; tried-is = written tried-numbers lent _ told after given are }
 
-  pub trial-not-served : (n : ℕ) (r : ℤ) → refuses n ≡ trial-outcome L q (tree-of rows) → IsAnswer (refuses n) r → TrialServed rows L p lent lent (toZ w64 (ofZ w64 r))
-  trial-not-served n r tried is =
+  pub trial-refusal-served : (n : ℕ) (r : ℤ) → refuses n ≡ trial-outcome L q (tree-of rows) → IsAnswer (refuses n) r → TrialServed rows L p lent lent (toZ w64 (ofZ w64 r))
+  trial-refusal-served n r tried is =
       let refused = tried ∙ same-trial in
       record { answer-is = refusal-told _ r n refused is; tried-is = left-as-found tried-numbers lent _ n refused }
 

@@ -23,7 +23,7 @@ use Rattle.history.proofs.Demand3OfLibrary.{served-is-carried-out}
 
 -- What is read out of a trial
 
--- the figures, whatever number of split is written
+-- the figures: 1 is read as a split, 0 as none
 figures-are-told : (told : Trial) → tried-told (pos 0) (tried-numbers told) ≡ gives told
 unfolding tried-told tried-numbers
 figures-are-told told = ap (λ (b : Bool). gives (record { start = told .start; added = told .added; split = b })) (one-is-split (told .split))

@@ -3,7 +3,7 @@
 use mathlib.Core.Path.{sym, _∙_, ap}
 use borrow.Author.Needs.{needs}
 use Rattle.trials.specs.Answers.{trial-answer}
-use Rattle.gaplinte.proofs.Serving.{trial-served, trial-not-served}
+use Rattle.gaplinte.proofs.Serving.{trial-served, trial-refusal-served}
 use Rattle.gaplinte.proofs.trial.gaplinte_trial.Statement.{statement}
 use Rattle.gaplinte.proofs.trial.gaplinte_trial.Tie as tie
 
@@ -40,7 +40,7 @@ unfolding trial-answer
 returns-2 c =
     let match = c .before .before in
     let asked = match .before .before in
-    trial-not-served _ _ _ _ _ (asked .before .period-asked .ensures) _ _ (sym (ap trial-answer (match .answer2 .given .1)) ∙ asked .trial-rows .ensures) (c .refused .ensures)
+    trial-refusal-served _ _ _ _ _ (asked .before .period-asked .ensures) _ _ (sym (ap trial-answer (match .answer2 .given .1)) ∙ asked .trial-rows .ensures) (c .refused .ensures)
 
 pub gaplinte-trial-spec : {M : Type 1} → statement M
 gaplinte-trial-spec =
