@@ -1,5 +1,5 @@
-"""Marked case A of document 01: periods 4, 6 and 8, then 2, which is refused with 5, then 12. Prints what the library
-answers; exits with 1 where that differs from document 01."""
+"""Marked case A of document 01: periods 4, 6 and 8, then 2, which is refused with 5, then 12. The 6 and the 12 are tried
+first. Prints what the library answers; exits with 1 where that differs from documents 01 and 02."""
 
 import pathlib
 import sys
@@ -20,6 +20,14 @@ def book(plan, line, period):
     return start
 
 
+def tell(plan, line, period):
+    """Gives what the open of a line would do. The plan is only read."""
+    told = plan.trial(line, period)
+    split = "yes" if told.split else "no"
+    print(f"line {line}, period {period}: would start at {told.start}, nodes added {told.added}, split {split}")
+    return told
+
+
 def ask(plan, round):
     """Gives the owner of a round."""
     owner = plan.owner(round)
@@ -29,9 +37,18 @@ def ask(plan, round):
 
 def main():
     plan = gaplinte.Plan()
-    booked = [book(plan, line, period) for line, period in [(1, 4), (2, 6), (3, 8), (4, 2), (4, 12)]]
+    answers = [
+        book(plan, 1, 4),
+        tell(plan, 2, 6),
+        book(plan, 2, 6),
+        book(plan, 3, 8),
+        book(plan, 4, 2),
+        tell(plan, 4, 12),
+        book(plan, 4, 12),
+    ]
     owners = [ask(plan, round) for round in (7, 9, 10)]
-    return 0 if booked == [0, 1, 2, "refused with 5", 3] and owners == [2, None, 3] else 1
+    expected = [0, (1, 2, True), 1, 2, "refused with 5", (3, 1, False), 3]
+    return 0 if answers == expected and owners == [2, None, 3] else 1
 
 
 if __name__ == "__main__":

@@ -1,31 +1,54 @@
-//! Marked case A of document 01: periods 4, 6 and 8, then 2, which is refused with 5, then 12. Prints what the library
-//! answers, and panics where that differs from document 01.
+//! Marked case A of document 01: periods 4, 6 and 8, then 2, which is refused with 5, then 12. The 6 and the 12 are tried
+//! first. Prints what the library answers, and panics where that differs from documents 01 and 02.
 
-use gaplinte::{Line, Period, Plan, Refusal, Round, Start};
+use gaplinte::{Line, Period, Plan, Refusal, Round, Start, Trial};
 
-fn main() {
+fn book(plan: &mut Plan, line: u64, period: u64, expected: Result<Start, Refusal>) {
+    let answer = plan.open(Line(line), Period(period));
+    match answer {
+        Ok(start) => println!("line {line}, period {period}: starts at {start}"),
+        Err(refusal) => println!("line {line}, period {period}: {refusal}"),
+    }
+    assert_eq!(answer, expected);
+}
+
+/// Tells what the open of a line would do. The plan is only read.
+fn tell(plan: &Plan, line: u64, period: u64, expected: Trial) -> Result<(), Refusal> {
+    let told = plan.trial(Line(line), Period(period))?;
+    let Trial { start, added, .. } = told;
+    let split = if told.split { "yes" } else { "no" };
+    println!(
+        "line {line}, period {period}: would start at {start}, nodes added {added}, split {split}"
+    );
+    assert_eq!(told, expected);
+    Ok(())
+}
+
+fn ask(plan: &Plan, round: u64, expected: Option<Line>) {
+    let owner = plan.owner(Round(round));
+    match owner {
+        Some(line) => println!("round {round}: line {line}"),
+        None => println!("round {round}: idle"),
+    }
+    assert_eq!(owner, expected);
+}
+
+fn main() -> Result<(), Refusal> {
     let mut plan = Plan::new();
-    let booked = [
-        (1, 4, Ok(Start(0))),
-        (2, 6, Ok(Start(1))),
-        (3, 8, Ok(Start(2))),
-        (4, 2, Err(Refusal::NoCandidate)),
-        (4, 12, Ok(Start(3))),
-    ];
-    for (line, period, expected) in booked {
-        let answer = plan.open(Line(line), Period(period));
-        match answer {
-            Ok(start) => println!("line {line}, period {period}: starts at {start}"),
-            Err(refusal) => println!("line {line}, period {period}: {refusal}"),
-        }
-        assert_eq!(answer, expected);
-    }
-    for (round, expected) in [(7, Some(Line(2))), (9, None), (10, Some(Line(3)))] {
-        let owner = plan.owner(Round(round));
-        match owner {
-            Some(line) => println!("round {round}: line {line}"),
-            None => println!("round {round}: idle"),
-        }
-        assert_eq!(owner, expected);
-    }
+    let trial = |start, added, split| Trial {
+        start: Start(start),
+        added,
+        split,
+    };
+    book(&mut plan, 1, 4, Ok(Start(0)));
+    tell(&plan, 2, 6, trial(1, 2, true))?;
+    book(&mut plan, 2, 6, Ok(Start(1)));
+    book(&mut plan, 3, 8, Ok(Start(2)));
+    book(&mut plan, 4, 2, Err(Refusal::NoCandidate));
+    tell(&plan, 4, 12, trial(3, 1, false))?;
+    book(&mut plan, 4, 12, Ok(Start(3)));
+    ask(&plan, 7, Some(Line(2)));
+    ask(&plan, 9, None);
+    ask(&plan, 10, Some(Line(3)));
+    Ok(())
 }

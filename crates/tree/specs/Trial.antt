@@ -44,12 +44,13 @@ trial-outcome L p t = gives-unless (open-refusal L p t) (trial L p t)
 
 -- The open made next
 
--- the weight of the node at a place, none where no node stands there
+-- the weight of a node; a line has none
 unfoldable pub weight-of : Tree → Option ℕ
 weight-of nothing = none
 weight-of (line n) = none
 weight-of (node w f) = some w
 
+-- that of the node at a place, none where no node stands there
 unfoldable pub weight-at : Place → Tree → Option ℕ
 weight-at a t = weight-of (at a t)
 
