@@ -82,8 +82,8 @@ typedef struct gaplinte_plan {
     gaplinte_row paths[GAPLINTE_LINES][GAPLINTE_ROWS];
 } gaplinte_plan;
 
-/* What trial writes: the start that the open would answer, how many nodes it would add, and 1 where it would split one,
- * else 0. */
+/* What trial writes: the start that the open would answer, how many more nodes the plan would have, and 1 where a node
+ * would be split, else 0. */
 typedef struct gaplinte_tried {
     uint16_t start;
     uint16_t added;

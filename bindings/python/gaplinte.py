@@ -73,7 +73,7 @@ class Row(NamedTuple):
 
 
 class Trial(NamedTuple):
-    """What an open would do: its start, how many nodes it would add, whether it would split one."""
+    """What an open would do: its start, how many more nodes the plan would have, whether one would be split."""
 
     start: int
     added: int

@@ -125,7 +125,8 @@ mod tests {
     }
 
     /// `trial LINE PERIOD 0 START ADDED SPLIT` and then `open LINE PERIOD 0 START`, or both
-    /// refused with the same number.
+    /// refused with the same number. The trial is an open on a copy, so that a difference
+    /// would be one of printing; that each result is among them can fail too.
     #[test]
     fn opens_after_the_same_trial_print_its_answer() {
         let text = answers(&stored());

@@ -29,7 +29,7 @@ pub struct Row {
 pub struct Trial {
     /// The start that it would answer.
     pub start: Start,
-    /// How many nodes it would add.
+    /// How many more nodes the plan would have.
     pub added: u16,
     /// Whether it would split a node.
     pub split: bool,

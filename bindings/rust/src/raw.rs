@@ -69,8 +69,8 @@ pub fn open(rows: &mut [u16; PLAN_NUMBERS], line: u64, period: u64) -> i64 {
     foreign::gaplinte_open(rows, line, period)
 }
 
-/// Tries a line: the start that the open would answer, how many nodes it would add, and 1 where it would split one, else 0,
-/// are written; the value is 0. Refused with 1, 2, 3 or 5, as the open would be.
+/// Tries a line: the start that the open would answer, how many more nodes the plan would have, and 1 where a node would
+/// be split, else 0, are written; the value is 0. Refused with 1, 2, 3 or 5, as the open would be.
 #[must_use]
 pub fn trial(rows: &[u16; PLAN_NUMBERS], line: u64, period: u64, tried: &mut [u16; 3]) -> i64 {
     foreign::gaplinte_trial(rows, line, period, tried)

@@ -11,7 +11,7 @@ use lib.ListN.{length, take}
 use Rattle.tree.specs.declared.Row.{Row}
 use Rattle.tree.specs.declared.Plan.{Plan}
 use Rattle.tree.specs.Search.{if_then_else_}
-use Rattle.tree.specs.Tree.{Tree, node, path, path-of, step}
+use Rattle.tree.specs.Tree.{Tree, present, path, path-of, step}
 use Rattle.tree.specs.Opening.{divisor, opened, start-in, start-given}
 use Rattle.tree.specs.Asking.{rows-11}
 use Rattle.tree.specs.Record.{path-at, legal, treeOf, numbers, recordOf}
@@ -146,9 +146,11 @@ module _ (plan : Plan) (L p : ℕ) (s : Spot) (is-legal : legal (plan .rows) ≡
       set-line-record split-rows L _ (opened L p t) (omega (arith, may .number-in-range)) split-rows-length (sym new-path) λ M below other.
       block-before M below ∙ ap (λ (rs : List Row). numbers (rows-11 rs)) (sym (other-path M below other))
 
+  -- the line whose path goes through the spot stands in the tree
+  pub spot-present : present t ≡ true
+  spot-present = stands-present (s .line) t _ _ (path-stands (s .line) t ps line-path)
+
   -- the start that the code answers
   pub booked-start : s .offset + s .class * s .step ≡ start-given p t
   unfolding start-given start-in place-of
-  booked-start =
-      let here = stands-present (s .line) t _ _ (path-stands (s .line) t ps line-path) in
-      rw (here, found-spot .chosen-is) (cc)
+  booked-start = rw (spot-present, found-spot .chosen-is) (cc)

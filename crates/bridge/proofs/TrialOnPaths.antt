@@ -7,20 +7,18 @@ use lib.Dec.{ltb}
 use lib.ListN.{length}
 use Rattle.tree.specs.declared.Plan.{Plan}
 use Rattle.tree.specs.Search.{count-below}
-use Rattle.tree.specs.Tree.{Tree, node, present, sum, Place, at, way}
+use Rattle.tree.specs.Tree.{Tree, present, sum, Place, at, way}
 use Rattle.tree.specs.Opening.{free}
 use Rattle.tree.specs.Trial.{is-split, split-in, trial}
 use Rattle.tree.specs.Record.{path-at, legal, treeOf}
 use Rattle.paths.specs.Rules.{Family, row-of, class-taken, classes-taken, own-nodes, Spot, place-of, trial-at}
-use Rattle.tree.proofs.Standing.{path-stands}
-use Rattle.tree.proofs.UnderEdge.{stands-present}
 use Rattle.tree.proofs.Opening.{MayOpen}
 use Rattle.tree.proofs.NodesAdded.{nodes-added, nodes-added-in, trial-added}
 use Rattle.bridge.proofs.TreeOfRecord.{treeOf-paths}
 use Rattle.bridge.proofs.NodesOnPaths.{place-on, way-sum}
-use Rattle.bridge.proofs.ClassOnPaths.{family-path, node-on-path, class-free-is}
+use Rattle.bridge.proofs.ClassOnPaths.{node-on-path, class-free-is}
 use Rattle.bridge.proofs.SearchOnPaths.{FoundSpot}
-use Rattle.bridge.proofs.BookedRecord.{booked-start}
+use Rattle.bridge.proofs.BookedRecord.{spot-present, booked-start}
 
 module _ (plan : Plan) (L p : ℕ) (s : Spot) (is-legal : legal (plan .rows) ≡ true) (long : length (plan .rows) ≡ 1408)
     (may : MayOpen L p (treeOf plan)) (found-spot : FoundSpot p (treeOf plan) (path-at (plan .rows)) s) where
@@ -32,11 +30,6 @@ module _ (plan : Plan) (L p : ℕ) (s : Spot) (is-legal : legal (plan .rows) ≡
 
   abbrev weight : ℕ
   weight = row-of (s .level) (family (s .line)) .weight
-
-  here : present t ≡ true
-  here =
-      let on-line = family-path t family (treeOf-paths plan is-legal) (s .line) (s .level) (found-spot .line-below) (found-spot .level-below) in
-      stands-present (s .line) t _ _ (path-stands (s .line) t (family (s .line)) on-line)
 
   -- the spot is where the line's path has its node
   place-is : place-on (s .level) (family (s .line)) ≡ place-of s
@@ -65,6 +58,7 @@ module _ (plan : Plan) (L p : ℕ) (s : Spot) (is-legal : legal (plan .rows) ≡
   added-is : trial-at family p s .added ≡ trial L p t .added
   unfolding trial-at own-nodes nodes-added-in nodes-added place-of
   added-is =
+      let here = spot-present plan L p s is-legal long may found-spot in
       rw (trial-added L p t (place-of s) may here (found-spot .chosen-is), found-spot .node .1, classes-counted (s .divisor), found-spot .step-is, found-spot .divisor-is)
 
   pub trial-at-is : trial-at family p s ≡ trial L p t

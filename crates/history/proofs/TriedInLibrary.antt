@@ -12,9 +12,8 @@ use Rattle.tree.specs.Search.{if_then_else_}
 use Rattle.tree.specs.Refusals.{open-refusal}
 use Rattle.tree.specs.Calls.{open-line, refusal, gives, refuses, gives-unless}
 use Rattle.tree.specs.Trial.{Trial, trial, trial-outcome}
-use Rattle.bridge.specs.Rows.{plan-of, tree-of}
-use Rattle.plan.proofs.Changes.{carried-meets}
-use Rattle.plan.proofs.Trials.{open-as-told}
+use Rattle.bridge.specs.Rows.{tree-of}
+use Rattle.plan.proofs.Trials.{open-rows-as-told}
 use Rattle.lists.proofs.AnswersFit.{Small, refusal-small}
 use Rattle.gaplinte.specs.Answer.{answer-number, zero-value, numbers-or}
 use Rattle.gaplinte.specs.Served.{tried-numbers}
@@ -49,7 +48,7 @@ outcome-is-told L p rows lent = by-refusal (open-refusal L p (tree-of rows)) (re
 -- The open after it
 
 pub opened-as-tried-in-library : OpenedAsTriedInLibrary
-unfolding OpenedAsTriedInLibrary tree-of
+unfolding OpenedAsTriedInLibrary
 opened-as-tried-in-library L p before lent tried after r s told served =
-    let meets = carried-meets (open-line L p) (plan-of before) after _ (served-is-carried-out (open-line L p) before after s served) in
-    rw (told .answer-is, told .tried-is, outcome-is-told L p before lent) (open-as-told L p (plan-of before) _ (plan-of after) meets)
+    rw (told .answer-is, told .tried-is, outcome-is-told L p before lent)
+    (open-rows-as-told L p before after _ (served-is-carried-out (open-line L p) before after s served))

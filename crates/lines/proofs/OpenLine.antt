@@ -98,28 +98,28 @@ module _ (rows : List ℕ) (L p : ℕ) (s : Spot) (ready-at : BookableAt rows L 
   abbrev ready : Bookable rows L p
   ready = ready-at .bookable
 
-  found-spot : FoundSpot p (tree-of rows) (path-at rows) s
+  pub found-spot : FoundSpot p (tree-of rows) (path-at rows) s
   found-spot = spot-found rows (ready .is-legal) long L p (ready .number) (ready .inside) (ready .absent) s (ready-at .found-one)
 
-  may : MayOpen L p (tree-of rows)
-  may = may-open rows (ready .is-legal) long L p (ready .number) (ready .inside) (ready .absent) s (ready-at .found-one)
+  pub may-open-at : MayOpen L p (tree-of rows)
+  may-open-at = may-open rows (ready .is-legal) long L p (ready .number) (ready .inside) (ready .absent) s (ready-at .found-one)
 
   -- the numbers that the code computes are in range
   pub product-fits : s .step * s .divisor ≤ 4095
   unfolding tree-of
   product-fits =
-      let most = product-at-most (record { rows = rows }) L p s (ready .is-legal) long may found-spot in
+      let most = product-at-most (record { rows = rows }) L p s (ready .is-legal) long may-open-at found-spot in
       let range = range-at-most p (ready .inside) in
       omega arith
 
   pub product-not-zero : 0 < s .step * s .divisor
   unfolding tree-of
-  product-not-zero = product-positive (record { rows = rows }) L p s (ready .is-legal) long may found-spot
+  product-not-zero = product-positive (record { rows = rows }) L p s (ready .is-legal) long may-open-at found-spot
 
   pub start-fits : s .offset + s .class * s .step < 4095
   unfolding tree-of
   start-fits =
-      let below = start-below (record { rows = rows }) L p s (ready .is-legal) long may found-spot in
+      let below = start-below (record { rows = rows }) L p s (ready .is-legal) long may-open-at found-spot in
       let range = range-at-most p (ready .inside) in
       omega arith
 
@@ -131,10 +131,10 @@ module _ (rows : List ℕ) (L p : ℕ) (s : Spot) (ready-at : BookableAt rows L 
         on-path = found-spot .level-below;
         splittable = λ small. record {
           line-below-64 = found-spot .line-below;
-          divisor-above-0 = divisor-positive (record { rows = rows }) L p s (ready .is-legal) long may found-spot;
+          divisor-above-0 = divisor-positive (record { rows = rows }) L p s (ready .is-legal) long may-open-at found-spot;
           on-path = found-spot .level-below;
           row-left = λ M below through. record {
-            short = row-left (record { rows = rows }) L p s (ready .is-legal) long may found-spot M below through small;
+            short = row-left (record { rows = rows }) L p s (ready .is-legal) long may-open-at found-spot M below through small;
             rest-is-unused = legal-rest-unused rows (ready .is-legal) M below;
           };
         };
@@ -154,7 +154,7 @@ module _ (rows : List ℕ) (L p : ℕ) (s : Spot) (ready-at : BookableAt rows L 
   way-after : take (s .level) (path-at after (s .line)) ≡ take (s .level) (path-at rows (s .line))
   unfolding split-if-smaller tree-of
   way-after =
-      ap (take (s .level)) (split-path-at (record { rows = rows }) L p s (ready .is-legal) long may found-spot (s .line) (found-spot .line-below) other-line)
+      ap (take (s .level)) (split-path-at (record { rows = rows }) L p s (ready .is-legal) long may-open-at found-spot (s .line) (found-spot .line-below) other-line)
       ∙ either (same-node (s .level) ps ps) (ltb (s .divisor) (row-of (s .level) ps .weight))
     where
       ps : List Row
@@ -178,7 +178,7 @@ module _ (rows : List ℕ) (L p : ℕ) (s : Spot) (ready-at : BookableAt rows L 
         from-below-64 = found-spot .line-below;
         another-line = other-line;
         on-path = omega arith;
-        rows-left = rw (way-after, h) (rows-fit (record { rows = rows }) L p s (ready .is-legal) long may found-spot);
+        rows-left = rw (way-after, h) (rows-fit (record { rows = rows }) L p s (ready .is-legal) long may-open-at found-spot);
       }
 
   pub placed-is-booked : (q : ℕ) → q ≡ p / (s .step * s .divisor) →

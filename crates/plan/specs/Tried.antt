@@ -12,8 +12,8 @@ use Rattle.trials.specs.declared.TrialAnswer.{TrialAnswer}
 use Rattle.trials.specs.Answers.{trial-answer}
 use Rattle.plan.specs.Meets.{Meets}
 
--- (Ask 3, 4) A trial of line L and period p told this, then the open gave this answer and this plan: each is that of the rules, and the open came
--- to what the trial said.
+-- (Ask 3, 4) A trial of line L and period p told this, then the open gave this answer and this plan: each is that of the rules, and the open
+-- did what the trial said.
 pub record OpenedAsTried (L p : ℕ) (before : Plan) (told : TrialAnswer) (a : OpenAnswer) (after : Plan) : Type 0 where
   pub told-is : trial-answer told ≡ trial-outcome L p (treeOf before)
   pub opened-is : Meets (open-line L p) before (open-answer a) after

@@ -87,7 +87,7 @@ module _ (d w : ℕ) (f : ℕ → Tree) (positive : 0 < w) (divides : d * (w / d
             rw (le-ltb d w (omega arith), split-whole d w f (omega arith), divisor-is-weight d w positive divides not-small) (omega arith)
       ]
 
-  -- and none under the edge of that class in the split node
+  -- no node stands under the edge of a free class in the split node
   split-free : (i : ℕ) → i < d → free d w f i ≡ true → nodes (split d w f i) ≡ 0
   unfolding nodes
   split-free i below is-free =
@@ -106,7 +106,7 @@ nodes-added p m w f =
     let d = divisor p m w in
     groups-added d w f + (if eqb (p / (m * d)) 1 then 0 else 1)
 
--- the same of whatever tree
+-- the same of any tree, 0 where it is no node
 unfoldable pub nodes-added-in : ℕ → ℕ → Tree → ℕ
 nodes-added-in p m nothing = 0
 nodes-added-in p m (line n) = 0

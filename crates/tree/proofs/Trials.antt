@@ -1,4 +1,4 @@
--- An open does what the trial told (specs/Trial.antt, document 02, Ask 3).
+-- What a trial tells of a first line, and that an open does what the trial told (specs/Trial.antt, document 02, Ask 3).
 -- Assumes nothing.
 use Prim.Native.Nat.{ℕ}
 use native.Mathlib.Omega.{arith}
@@ -12,10 +12,18 @@ use Rattle.tree.specs.Opening.{best, chosen, opened}
 use Rattle.tree.specs.Refusals.{open-refusal}
 use Rattle.tree.specs.Calls.{open-line, refusal, reply, carried-out, answer-unless, tree-unless, answer, after, gives-unless}
 use Rattle.tree.specs.Trial.{is-split, split-in, trial, trial-outcome, weight-at, NodeSplit, BroughtAbout}
-use Rattle.tree.proofs.Opening.{MayOpen, room-chosen}
+use Rattle.tree.proofs.Opening.{MayOpen, room-chosen, start-empty}
 use Rattle.tree.proofs.Checks.{open-may}
-use Rattle.tree.proofs.NodesAdded.{opened-at-least-nodes}
+use Rattle.tree.proofs.NodesAdded.{opened-at-least-nodes, trial-added-empty}
 use Rattle.tree.proofs.SplitWeights.{chosen-weights, split-changes-weight, nothing-no-weight, unsplit-keeps-weights}
+
+-- In the empty plan
+
+pub trial-empty : (L p : ℕ) → trial L p nothing ≡ record { start = 0; added = 1; split = false }
+unfolding trial split-in chosen best
+trial-empty L p i = record { start = start-empty p i; added = trial-added-empty L p i; split = false }
+
+-- The open after the trial
 
 module _ (L p : ℕ) where
   -- the empty plan has no node to split

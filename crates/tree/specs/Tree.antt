@@ -91,7 +91,7 @@ way a t = way-by-digits (a .level) (a .offset) t
 unfoldable pub step : Place → Tree → ℕ
 step a t = product (way a t)
 
--- (Refusals, the last sentence) The number of nodes of a tree.
+-- (Refusals, the last sentence; Ask 3, 2) The number of nodes of a tree.
 unfoldable pub nodes : Tree → ℕ
 nodes nothing = 0
 nodes (line n) = 0

@@ -23,7 +23,7 @@ is-split p m nothing = false
 is-split p m (line n) = false
 is-split p m (node w f) = ltb (divisor p m w) w
 
--- the node at the place of the chosen candidate is split; in the empty plan there is none
+-- the node at the place of the chosen candidate is split; the empty plan has no candidate, and in any other without one the trial is refused with 5
 unfoldable pub split-in : ℕ → Tree → Option Place → Bool
 split-in p t none = false
 split-in p t (some a) = is-split p (step a t) (at a t)

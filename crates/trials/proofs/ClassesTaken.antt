@@ -9,15 +9,13 @@ use mathlib.Core.List.{List}
 use lib.Dec.{eqb}
 use lib.ListN.{length, replicate}
 use borrow.Author.Tests.{eqb-true}
-use Rattle.tree.specs.declared.Row.{Row}
 use Rattle.tree.specs.Search.{some-below, count-below}
 use Rattle.tree.specs.Record.{row-at, path-at}
 use Rattle.paths.specs.Rules.{row-of, same-node, class-taken, classes-taken}
 use Rattle.tree.proofs.Searching.{some-below-none}
 use Rattle.tree.proofs.Totals.{count-at-most, count-none, count-one-more}
 use Rattle.paths.proofs.NoneBelow.{some-below-more}
-use Rattle.paths.proofs.PathRows.{row-in-path}
-use Rattle.paths.proofs.SameNode.{same-node-goes-on}
+use Rattle.paths.proofs.SameNode.{edge-read}
 use Rattle.candidates.specs.Edges.{marked, with-mark}
 use Rattle.candidates.proofs.Marks.{none-marked, with-mark-length, marked-more}
 
@@ -25,7 +23,7 @@ use Rattle.candidates.proofs.Marks.{none-marked, with-mark-length, marked-more}
 abbrev takes-class : List ℕ → ℕ → ℕ → ℕ → ℕ → ℕ → Bool
 takes-class rows L l d i M = same-node l (path-at rows L) (path-at rows M) && eqb (row-of l (path-at rows M) .edge % d) i
 
--- marked are the classes that the lines below M take, and so many classes are marked
+-- marked are the classes that the lines below M take, and `count` is how many are marked
 pub record Counting (rows : List ℕ) (L l d : ℕ) (met : List ℕ) (count M : ℕ) : Type 0 where
   pub within : M ≤ 64
   pub words : length met ≡ 64
@@ -66,15 +64,12 @@ module _ (rows : List ℕ) (L l d : ℕ) where
         meets : same-node l (path-at rows L) (path-at rows M) ≡ true
         meets = sym answered ∙ through
 
-        edge-is : row-of l (path-at rows M) .edge ≡ e
-        edge-is = ap (λ (r : Row). r .edge) (row-in-path rows M (same-node-goes-on l (path-at rows L) (path-at rows M) meets .1)) ∙ sym read
-
         class-below : e % d < d
         class-below = mod-lt e positive
 
         -- the lines below M + 1 take the classes that those below M take, and that of e
         one-more-line : (i : ℕ) → some-below (M + 1) (takes-class rows L l d i) ≡ (marked met i || eqb (e % d) i)
-        one-more-line i = rw (some-below-more M (takes-class rows L l d i), counting .each i, meets, edge-is)
+        one-more-line i = rw (some-below-more M (takes-class rows L l d i), counting .each i, edge-read rows (path-at rows L) l M read (λ k. eqb (k % d) i), meets)
 
         module _ {c : Bool} (looked : c ≡ marked met (e % d)) where
           pub counting-met : c ≡ true → Counting rows L l d met count (M + 1)

@@ -7,22 +7,19 @@ use mathlib.Core.Bool.{false}
 use mathlib.Core.List.{List}
 use mathlib.Core.Option.{none, some}
 use lib.ListN.{length}
-use Rattle.tree.specs.Tree.{nothing}
-use Rattle.tree.specs.Opening.{chosen, best}
 use Rattle.tree.specs.Refusals.{open-refusal}
 use Rattle.tree.specs.Calls.{gives, refuses, gives-unless}
-use Rattle.tree.specs.Trial.{Trial, split-in, trial, trial-outcome}
+use Rattle.tree.specs.Trial.{Trial, trial, trial-outcome}
 use Rattle.tree.specs.Record.{path-at}
 use Rattle.paths.specs.Rules.{Spot, trial-at}
-use Rattle.tree.proofs.Opening.{start-empty}
-use Rattle.tree.proofs.NodesAdded.{trial-added-empty}
+use Rattle.tree.proofs.Trials.{trial-empty}
 use Rattle.bridge.specs.Rows.{plan-of, tree-of}
 use Rattle.bridge.proofs.FirstRecord.{all-closed-nothing}
-use Rattle.bridge.proofs.CallsOnRecords.{first-not-refused, spot-found, not-refused, may-open}
+use Rattle.bridge.proofs.CallsOnRecords.{first-not-refused, not-refused}
 use Rattle.bridge.proofs.TrialOnPaths.{trial-at-is}
 use Rattle.candidates.specs.Edges.{ClosedFrom}
 use Rattle.lines.specs.Bookable.{Bookable, BookableAt}
-use Rattle.lines.proofs.OpenLine.{all-closed, product-fits, product-not-zero, start-fits, spot-splittable}
+use Rattle.lines.proofs.OpenLine.{all-closed, found-spot, may-open-at, product-fits, product-not-zero, start-fits, spot-splittable}
 use Rattle.trials.specs.Tryable.{Tryable}
 
 module _ (rows : List ℕ) (L p : ℕ) where
@@ -36,15 +33,11 @@ module _ (rows : List ℕ) (L p : ℕ) where
 
   -- Under the root of an empty plan
 
-  first-trial : trial L p nothing ≡ record { start = 0; added = 1; split = false }
-  unfolding trial split-in chosen best
-  first-trial i = record { start = start-empty p i; added = trial-added-empty L p i; split = false }
-
   pub trial-first : Bookable rows L p → length rows ≡ 1408 → ClosedFrom rows 0 → gives (record { start = 0; added = 1; split = false }) ≡ trial-outcome L p (tree-of rows)
   unfolding tree-of
   trial-first ready long closed =
       let empty = all-closed-nothing (plan-of rows) (ready .is-legal) (all-closed closed) in
-      sym (ap gives (ap (trial L p) empty ∙ first-trial))
+      sym (ap gives (ap (trial L p) empty ∙ trial-empty L p))
       ∙ not-refused-gives (first-not-refused rows (ready .is-legal) long L p (ready .number) (ready .inside) (ready .absent) (all-closed closed))
 
   -- At the chosen candidate
@@ -65,7 +58,5 @@ module _ (rows : List ℕ) (L p : ℕ) where
     unfolding tree-of
     trial-booked counted =
         let ready = ready-at .bookable in
-        let found-spot = spot-found rows (ready .is-legal) long L p (ready .number) (ready .inside) (ready .absent) s (ready-at .found-one) in
-        let may = may-open rows (ready .is-legal) long L p (ready .number) (ready .inside) (ready .absent) s (ready-at .found-one) in
-        ap gives (counted ∙ trial-at-is (plan-of rows) L p s (ready .is-legal) long may found-spot)
+        ap gives (counted ∙ trial-at-is (plan-of rows) L p s (ready .is-legal) long (may-open-at rows L p s ready-at long) (found-spot rows L p s ready-at long))
         ∙ not-refused-gives (not-refused rows (ready .is-legal) long L p (ready .number) (ready .inside) (ready .absent) s (ready-at .found-one))
