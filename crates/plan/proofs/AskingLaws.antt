@@ -14,7 +14,6 @@ use Rattle.tree.specs.Calls.{gives, refuses, show-outcome, turns-outcome}
 use Rattle.tree.specs.Record.{path-at, no-rows, legal}
 use Rattle.paths.specs.declared.Found.the-variants.{At, Nothing}
 use Rattle.paths.proofs.PathLength.{lookup-nothing, lookup-at}
-use Rattle.paths.proofs.PathRest.{path-rest-start, path-rest-product}
 use Rattle.bridge.specs.Rows.{tree-of}
 use Rattle.bridge.proofs.TreeOfRecord.{legal-on-record, paths-on-record}
 use Rattle.bridge.proofs.AskingRecords.{shown-refused-1, shown-refused-4, shown-on-illegal, shown-on-record, turns-refused-1, turns-refused-4, turns-on-illegal, open-by-rows, turns-not-refused}
@@ -68,7 +67,3 @@ module _ (rows : List ℕ) where
       turns-found a N =
           let by-division = turns-by-division (tree-of rows) (legal-on-record rows) L (open-by-rows rows found-legal L number false has-rows) a N in
           turns-not-refused rows found-legal L number a N has-rows ∙ ap gives (rw (← paths-on-record rows found-legal L (omega arith)) at by-division)
-
--- a period is at least 1
-pub period-positive : (rows : List ℕ) (L : ℕ) → 1 ≤ product (path-at rows L)
-period-positive rows L = rw (path-rest-start rows L) at (path-rest-product rows L 0)

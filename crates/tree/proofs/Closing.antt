@@ -133,6 +133,6 @@ closed-legal L (node w f) (inl h) =
 closed-legal L (node w f) (inr h) =
     let t = node w f in
     elim (ℕ-discrete (h .number) L) [
-      | yes e ↦ subst Legal (sym (last-line-closed L t λ M q u s. alone-line M t q u h s ∙ e)) tt
-      | no other ↦ subst Legal (sym (absent-line-closed L t (legal-proper t (inr h)) λ q u s. other (sym (alone-line L t q u h s)))) (inr h)
+      | yes e ↦ subst Legal (sym (last-line-closed L t λ M q u s. alone-line M t q u h s .0 ∙ e)) tt
+      | no other ↦ subst Legal (sym (absent-line-closed L t (legal-proper t (inr h)) λ q u s. other (sym (alone-line L t q u h s .0)))) (inr h)
     ]

@@ -29,8 +29,11 @@ pub mod Depth
 pub mod NodesAdded
 pub mod SplitWeights
 pub mod Trials
--- Demand 3
+-- Which numbers and periods lines have
 pub mod Numbering
+-- The rest
+pub mod Resting
+-- Demand 3
 pub mod Checks
 pub mod Agreement
 pub mod Demand3

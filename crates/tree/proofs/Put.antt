@@ -121,7 +121,7 @@ stands-one-edge K L w q u h = go (put-stands K w 0 (line L) (λ e. nothing) q u 
         )
     go (inr x) = absurd (x .in-node .stands)
 
--- the line of a root of weight 1 is the only one
-pub alone-line : (K : ℕ) (t : Tree) (q u : ℕ) (alone : Alone t) → Stands K t q u → K ≡ alone .number
+-- the line of a root of weight 1 is the only one, and its period is 1
+pub alone-line : (K : ℕ) (t : Tree) (q u : ℕ) (alone : Alone t) → Stands K t q u → (K ≡ alone .number) × (q ≡ 1) × (u ≡ 0)
 alone-line K t q u alone h =
-    stands-one-edge K (alone .number) 1 q u (subst (λ (x : Tree). Stands K x q u) (alone .tree) h) .0
+    stands-one-edge K (alone .number) 1 q u (subst (λ (x : Tree). Stands K x q u) (alone .tree) h)

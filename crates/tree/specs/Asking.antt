@@ -1,21 +1,50 @@
--- Asking the plan (document 01, Asking the plan; turns by document 02, Ask 1).
+-- Asking the plan (document 01, Asking the plan; turns by document 02, Ask 1, and the rest by Ask 4).
 -- Assumes nothing.
-use Prim.Native.Nat.{ℕ, _+_, _*_, _/_, _%_}
+use Prim.Native.Nat.{ℕ, _+_, _*_, _/_, _%_, _<_}
 use mathlib.Core.Path.{_≡_}
-use mathlib.Core.Bool.{Bool, false}
+use mathlib.Core.Bool.{Bool, true, false}
 use mathlib.Core.List.{List, [], _∷_, _++_}
-use mathlib.Core.Option.{Option, none, some}
+use mathlib.Core.Option.{Option, none, some, Option·getD}
 use lib.Dec.{eqb}
 use lib.ListN.{take, replicate}
 use Rattle.tree.specs.declared.Row.{Row}
-use Rattle.tree.specs.Search.{count-below}
-use Rattle.tree.specs.Tree.{Tree, nothing, line, node, row, path-of, period-of, start-of, Place, way}
+use Rattle.tree.specs.Search.{if_then_else_, found, smallest, count-below}
+use Rattle.tree.specs.Tree.{Tree, nothing, line, node, present, row, path-of, period-of, start-of, Place, way}
 
 -- (Asking the plan, 1, 2) Owner: at a node of weight w the round selects edge t mod w, and t div w goes on below it. No line found is idle.
 unfoldable pub owner : ℕ → Tree → Option ℕ
 owner t nothing = none
 owner t (line n) = some n
 owner t (node w f) = owner (t / w) (f (t % w))
+
+-- (Ask 4, 2) Round n has an owner.
+unfoldable pub owned : ℕ → Tree → Bool
+owned n t = found (owner n t)
+
+-- (Ask 4, 2, 3) The rest of round n, how many rounds lie from it to the next owned one: 0 in the empty plan, else the smallest g for which round n + g has
+-- an owner. Rounds are whole numbers, so that none is too large. A plan with a line has such a g below the longest period: `rest-is-rest`.
+unfoldable pub rest : ℕ → Tree → ℕ
+rest n t = if present t then Option·getD (smallest 4095 (λ g. owned (n + g) t)) 0 else 0
+
+-- (Ask 4, 2, 3) What the rest g of round n has to be, over every whole number.
+pub record IsRest (n : ℕ) (t : Tree) (g : ℕ) : Type 0 where
+  -- 0 in the empty plan
+  pub empty-plan : present t ≡ false → g ≡ 0
+  -- in every other the round after so many has an owner, and no round before that one
+  pub next-owned : present t ≡ true → owned (n + g) t ≡ true
+  pub none-before : (k : ℕ) → k < g → owner (n + k) t ≡ none
+
+-- (Asking the plan, 1; Ask 4, 2) What owner answers of a round: the line that owns it, or that it is idle, with its rest.
+pub data OwnerOrRest : Type 0 where
+  owned-by : ℕ → OwnerOrRest
+  idle-for : ℕ → OwnerOrRest
+
+unfoldable pub or-rest : Option ℕ → ℕ → OwnerOrRest
+or-rest (some L) g = owned-by L
+or-rest none g = idle-for g
+
+unfoldable pub owner-or-rest : ℕ → Tree → OwnerOrRest
+owner-or-rest n t = or-rest (owner n t) (rest n t)
 
 -- (Asking the plan, 1) The rows of that walk: the weight of each node passed, and the edge selected there.
 unfoldable pub walked : ℕ → Tree → List Row

@@ -1,14 +1,13 @@
--- The joint table: document 01's marked cases A to I, without the printing, as calls with the answers that it marks; then seven cases of our own.
+-- The joint table: document 01's marked cases A to I, without the printing, as calls with the answers that it marks; then eight cases of our own.
 -- Each case begins at the empty plan. The one proof over the whole table is in proofs/JointTable.antt.
 -- Assumes nothing.
 use Prim.Native.Nat.{ℕ}
 use mathlib.Core.Bool.{Bool, true, false}
 use mathlib.Core.List.{List, [], _∷_, _++_}
-use mathlib.Core.Option.{Option, none, some}
 use lib.ListN.{length}
 use Rattle.tree.specs.declared.Row.{Row}
 use Rattle.tree.specs.Tree.{Tree, row, path-of, nodes}
-use Rattle.tree.specs.Asking.{owner, rows-11, Shown}
+use Rattle.tree.specs.Asking.{OwnerOrRest, owned-by, idle-for, owner-or-rest, rows-11, Shown}
 use Rattle.tree.specs.Calls.{open-line, close-line, Answer, booked, done, refused, answer, after, Outcome, gives, refuses, show-outcome, turns-outcome}
 use Rattle.tree.specs.Trial.{Trial, trial-outcome}
 
@@ -16,7 +15,7 @@ use Rattle.tree.specs.Trial.{Trial, trial-outcome}
 pub data Step : Type 0 where
   opens : ℕ → ℕ → Answer → Step
   closes : ℕ → Answer → Step
-  owner-of : ℕ → Option ℕ → Step
+  owner-of : ℕ → OwnerOrRest → Step
   show : ℕ → Outcome Shown → Step
   turns-of : ℕ → ℕ → ℕ → Outcome ℕ → Step
   nodes-above : ℕ → ℕ → Step
@@ -27,7 +26,7 @@ pub data Step : Type 0 where
 unfoldable pub answered : Tree → Step → Step
 answered t (opens L p a) = opens L p (answer (open-line L p) t)
 answered t (closes L a) = closes L (answer (close-line L) t)
-answered t (owner-of n a) = owner-of n (owner n t)
+answered t (owner-of n a) = owner-of n (owner-or-rest n t)
 answered t (show L a) = show L (show-outcome L t)
 answered t (turns-of L first N a) = turns-of L first N (turns-outcome L first N t)
 answered t (nodes-above L a) = nodes-above L (length (path-of L t))
@@ -74,9 +73,9 @@ bookings-A =
 
 unfoldable pub questions-A : List Step
 questions-A =
-    owner-of 7 (some 2)
-    ∷ owner-of 10 (some 3)
-    ∷ owner-of 9 none
+    owner-of 7 (owned-by 2)
+    ∷ owner-of 10 (owned-by 3)
+    ∷ owner-of 9 (idle-for 1)
     ∷ show 1 (shows 4 0 (row 2 0 ∷ row 2 0 ∷ []))
     ∷ show 4 (shows 12 3 (row 2 1 ∷ row 3 1 ∷ row 2 0 ∷ []))
     ∷ turns-of 4 0 100 (gives 9)
@@ -137,9 +136,9 @@ split-keeps-starts =
     ∷ opens 3 3 (booked 2)
     ∷ show 1 (shows 6 0 (row 3 0 ∷ row 2 0 ∷ []))
     ∷ show 2 (shows 6 1 (row 3 1 ∷ row 2 0 ∷ []))
-    ∷ owner-of 7 (some 2)
-    ∷ owner-of 4 none
-    ∷ owner-of 5 (some 3)
+    ∷ owner-of 7 (owned-by 2)
+    ∷ owner-of 4 (idle-for 1)
+    ∷ owner-of 5 (owned-by 3)
     ∷ []
 
 -- ours: an emptied plan is the fresh one, and an emptied node below a line that stays is gone
@@ -151,7 +150,7 @@ emptied-is-fresh =
     ∷ opens 3 6 (booked 1)
     ∷ closes 1 done
     ∷ closes 3 done
-    ∷ owner-of 0 none
+    ∷ owner-of 0 (idle-for 0)
     ∷ opens 4 4 (booked 0)
     ∷ show 4 (shows 4 0 (row 4 0 ∷ []))
     ∷ []
@@ -191,10 +190,10 @@ step-2047 =
     opens 1 4094 (booked 0)
     ∷ opens 2 2047 (booked 1)
     ∷ show 1 (shows 4094 0 (row 2047 0 ∷ row 2 0 ∷ []))
-    ∷ owner-of 0 (some 1)
-    ∷ owner-of 2047 none
-    ∷ owner-of 2048 (some 2)
-    ∷ owner-of 4094 (some 1)
+    ∷ owner-of 0 (owned-by 1)
+    ∷ owner-of 2047 (idle-for 1)
+    ∷ owner-of 2048 (owned-by 2)
+    ∷ owner-of 4094 (owned-by 1)
     ∷ []
 
 -- ours: trials. The first line gets the root; later ones stand under the root itself or under a node of their own, without a split and with one, which adds a
@@ -231,6 +230,21 @@ two-edges-in-a-class =
     ∷ nodes-in-all 2
     ∷ []
 
+-- ours: rests. In the empty plan; up to the longest, before the next owned round past 2^64 and before the next turn of either line, whichever comes first.
+unfoldable pub rests : List Step
+rests =
+    owner-of 7 (idle-for 0)
+    ∷ opens 1 4095 (booked 0)
+    ∷ owner-of 0 (owned-by 1)
+    ∷ owner-of 1 (idle-for 4094)
+    ∷ owner-of 4094 (idle-for 1)
+    ∷ owner-of 18446744073709551615 (idle-for 4080)
+    ∷ opens 2 6 (booked 1)
+    ∷ owner-of 2 (idle-for 5)
+    ∷ owner-of 4094 (idle-for 1)
+    ∷ owner-of 4096 (idle-for 3)
+    ∷ []
+
 unfoldable pub cases : List (List Step)
 cases =
     case-A
@@ -249,4 +263,5 @@ cases =
     ∷ step-2047
     ∷ tried-then-opened
     ∷ two-edges-in-a-class
+    ∷ rests
     ∷ []

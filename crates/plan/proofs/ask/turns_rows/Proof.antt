@@ -3,8 +3,9 @@
 use native.Mathlib.Omega.{arith}
 use mathlib.Core.Path.{sym, _∙_}
 use borrow.Author.Needs.{needs}
+use Rattle.paths.proofs.PathRest.{path-product}
 use Rattle.plan.specs.Ask.{turns-answer}
-use Rattle.plan.proofs.AskingLaws.{turns-above, turns-absent, found-legal, turns-found, period-positive}
+use Rattle.plan.proofs.AskingLaws.{turns-above, turns-absent, found-legal, turns-found}
 use Rattle.plan.proofs.ask.turns_rows.Statement.{statement}
 use Rattle.plan.proofs.ask.turns_rows.Tie as tie
 
@@ -35,7 +36,7 @@ times-of-requires c κs =
     (found-legal _ _ number _ (sym (after-find .find-line .ensures) ∙ c .enum-told .given .1), omega arith)
 
 turns-of-requires : tie.Need-turns-of-requires
-turns-of-requires c κs = rw (c .times-of .ensures .0) (period-positive _ _)
+turns-of-requires c κs = rw (c .times-of .ensures .0) (path-product _ _)
 
 returns-3 : tie.Need-returns-3
 unfolding turns-answer
