@@ -7,3 +7,5 @@ pub mod Visiting
 pub mod ElevenRows
 -- Turns
 pub mod TurnsByDivision
+-- The rest of a round
+pub mod NearestTurn

@@ -2,7 +2,7 @@
 -- Assumes nothing.
 use Prim.Native.Nat.{ℕ, zero, suc, _+_, _-_, _*_, _/_, _%_, _<_, _≤_}
 use native.Mathlib.Omega.{arith}
-use native.Mathlib.Nat.{mod-add-div, mod-lt, mod-eq-of-lt, mod-add-mod, add-mod-mod, add-mod-right, add-mul-mod-self-left, add-mul-div-left, add-div-right, div-eq-of-lt, div-eq-of-lt-le}
+use native.Mathlib.Nat.{mod-add-div, mod-lt, mod-add-mod, add-mod-mod, add-mul-mod-self-left, add-mul-div-left, add-div-right, div-eq-of-lt, div-eq-of-lt-le}
 use native.Mathlib.Decide.{decLt}
 use mathlib.Core.Path.{_≡_, refl, sym, _∙_, ap}
 use mathlib.Core.Bool.{Bool, true, false}
@@ -15,6 +15,7 @@ use Rattle.tree.specs.Asking.{turns}
 use Rattle.tree.proofs.Proper.{legal-proper}
 use Rattle.tree.proofs.Standing.{open-stands, start-below-period}
 use Rattle.tree.proofs.Ownership.{owns-by-times}
+use Rattle.tree.proofs.Resting.{next-fits}
 use Rattle.asking.specs.Turns.{until-turn, turns-by-times}
 
 -- The numbers i below N with i mod q = u: as many as q goes into N + (q - 1 - u)
@@ -80,15 +81,12 @@ until-below q u a period-positive = mod-lt (u + q - a % q) period-positive
 
 module _ (q u : ℕ) (below : u < q) (a : ℕ) where
   -- after so many rounds comes one that fits
-  until-fits : (a + until-turn q u a) % q ≡ u
+  pub until-fits : (a + until-turn q u a) % q ≡ u
   unfolding until-turn
-  until-fits =
-      let remainder-below = mod-lt a (period-positive q u below) in
-      let sum : a % q + (u + q - a % q) ≡ u + q = omega arith in
-      sym (mod-add-mod a q (until-turn q u a)) ∙ add-mod-mod (a % q) (u + q - a % q) q ∙ ap (λ (n : ℕ). n % q) sum ∙ add-mod-right u q ∙ mod-eq-of-lt below
+  until-fits = next-fits q u a below
 
   -- and then only after whole periods
-  fits-until : (i : ℕ) → (a + i) % q ≡ u → i % q ≡ until-turn q u a
+  pub fits-until : (i : ℕ) → (a + i) % q ≡ u → i % q ≡ until-turn q u a
   unfolding until-turn
   fits-until i fits =
       let remainder-below = mod-lt a (period-positive q u below) in

@@ -1,4 +1,4 @@
-// Asking the plan: what owner, show and turns read from the lent array of a plan record.
+// Asking the plan: what owner, show and turns read from the lent array of a plan record; the rest of an idle round in `rest`.
 ghost use mathlib.Core.Path.{_≡_};
 ghost use mathlib.Core.Bool.{true};
 ghost use Prim.Native.Nat.{suc, _/_, _<_};
@@ -15,6 +15,8 @@ ghost use Rattle.asking.specs.Turns.{until-turn, turns-by-times};
 use tree::Period;
 use tree::Row;
 use tree::Start;
+
+pub mod rest;
 
 // A line that goes through a node, by its number.
 pub enum Through {
@@ -157,7 +159,7 @@ pub fn rows_of(rows: &[u16; 1408], line: usize) -> [Row; 11]
 
 // How many rounds lie from a round to the next one that fits a line's times, which may be the round itself. Of a large
 // round only the remainder enters the sum.
-fn until_turn(times: Times, first: u64) -> u64
+pub(crate) fn until_turn(times: Times, first: u64) -> u64
     requires { ⌜ 0 < times .period .0 ⌝ }
     ensures { λ r. ⌜ r ≡ until-turn (times .period .0) (times .start .0) first ⌝ }
 {
