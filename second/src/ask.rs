@@ -1,7 +1,8 @@
-//! Document 01, section Asking the plan: owner and show. Document 02, Ask 1: turns.
+//! Document 01, section Asking the plan: owner and show. Document 02, Ask 1: turns; Ask 4: how
+//! long the recorder rests.
 
 use crate::refusal::Refusal;
-use crate::tree::{Node, Period, Plan, Start, Under};
+use crate::tree::{Node, Period, Plan, Start, Under, LAST_PERIOD};
 use std::ops::Range;
 
 /// Length of a path (Asking the plan, 3).
@@ -22,13 +23,55 @@ pub struct Shown {
     pub path: [Row; ROWS],
 }
 
-/// None is idle; there is no refusal (Asking the plan, 1 and 2).
-pub fn owner(plan: &Plan, round: u64) -> Option<u8> {
-    owner_at(plan, round.into())
+/// The answer of owner (Asking the plan, 1).
+#[derive(Clone, Copy, Debug, PartialEq, Eq)]
+pub enum Owner {
+    /// The line that owns the round.
+    Line(u8),
+    /// No line owns it. The rest is how many rounds lie from it to the next owned one, that
+    /// number less this (Ask 4, 2); it is 0 in the empty plan only (Ask 4, 3).
+    Idle { rest: u64 },
 }
 
-/// Any whole number, since turns counts past 2^64 (document 02, Ask 1).
-fn owner_at(plan: &Plan, round: u128) -> Option<u8> {
+impl Owner {
+    /// None is idle.
+    pub fn line(self) -> Option<u8> {
+        match self {
+            Owner::Line(line) => Some(line),
+            Owner::Idle { .. } => None,
+        }
+    }
+}
+
+/// There is no refusal (Asking the plan, 1 and 2).
+pub fn owner(plan: &Plan, round: u64) -> Owner {
+    match owner_at(plan, round.into()) {
+        Some(line) => Owner::Line(line),
+        None => Owner::Idle {
+            rest: rest(plan, round),
+        },
+    }
+}
+
+/// The smallest number of rounds after which the walk finds a line (Ask 4, 2): one round after
+/// the other is walked. As many rounds in succession as a line's period have one that it owns
+/// (The tree, 7 and 12), so that the search ends.
+fn rest(plan: &Plan, round: u64) -> u64 {
+    if plan.root.is_none() {
+        return 0;
+    }
+    let is_owned = |&after: &u64| {
+        let later = u128::from(round) + u128::from(after);
+        owner_at(plan, later).is_some()
+    };
+    (0..LAST_PERIOD)
+        .find(is_owned)
+        .expect("a line owns one of as many rounds as its period")
+}
+
+/// The line, None where the round is idle. The round is any whole number, since turns and the
+/// rest go past 2^64 (document 02, Ask 1 and Ask 4).
+pub(crate) fn owner_at(plan: &Plan, round: u128) -> Option<u8> {
     let root = plan.root.as_ref()?;
     walk(root, 1, 0, round)
 }
@@ -150,6 +193,87 @@ mod tests {
         for (periods, line, period) in [(&[4_095, 15, 4_095][..], 2, 4_095), (&[2_047], 0, 2_047)] {
             let counts = [0, 1, period - 1, period, period + 1, 2 * period + 16];
             assert_turns_are_all_rounds_walked(&opened(periods), line, &counts);
+        }
+    }
+
+    /// Case A with its idle rounds and their rests, found by hand; all four periods divide 24.
+    #[test]
+    fn rests_in_case_a() {
+        let mut plan = Plan::empty();
+        for (line, period) in [(1, 4), (2, 6), (3, 8), (4, 12)] {
+            plan.open(line, period).unwrap();
+        }
+        let rests: [(u64, u64); 9] = [
+            (5, 2),
+            (6, 1),
+            (9, 1),
+            (11, 1),
+            (14, 1),
+            (17, 1),
+            (21, 3),
+            (22, 2),
+            (23, 1),
+        ];
+        let idle = |round: &u64| owner(&plan, *round).line().is_none();
+        assert!((0..24).filter(idle).eq(rests.map(|(round, _)| round)));
+        for (round, rest) in rests {
+            assert_eq!(owner(&plan, round), Owner::Idle { rest }, "{round}");
+            let far = round + (u64::MAX / 24 - 1) * 24;
+            assert_eq!(owner(&plan, far), Owner::Idle { rest }, "{far}");
+        }
+    }
+
+    /// 2^64 − 1 leaves 15 when divided by 4,095.
+    #[test]
+    fn rests_of_the_longest_period() {
+        let plan = opened(&[4_095]);
+        for (round, rest) in [
+            (1, 4_094),
+            (2, 4_093),
+            (4_094, 1),
+            (u64::MAX - 16, 1),
+            (u64::MAX - 14, 4_094),
+            (u64::MAX, 4_080),
+        ] {
+            assert_eq!(owner(&plan, round), Owner::Idle { rest }, "{round}");
+        }
+        for round in [0, 4_095, u64::MAX - 15] {
+            assert_eq!(owner(&plan, round), Owner::Line(0), "{round}");
+        }
+    }
+
+    /// No round up to the next owned one is passed over, also where that is past 2^64: as a
+    /// round of 64 bits 2^64 would be 0, which each of the first lines owns.
+    #[test]
+    fn rests_end_at_the_first_round_that_fits() {
+        for periods in [&[7][..], &[3, 9], &[5, 35, 10], &[4_095, 585, 455]] {
+            let plan = opened(periods);
+            let lines = 0..periods.len() as u64;
+            let shown: Vec<Shown> = lines.map(|line| show(&plan, line).unwrap()).collect();
+            let is_fitting = |round: u128| {
+                let fits = |it: &Shown| round % u128::from(it.period.0) == it.start.0.into();
+                shown.iter().any(fits)
+            };
+            for first in border_rounds() {
+                let Owner::Idle { rest } = owner(&plan, first) else {
+                    assert!(is_fitting(first.into()), "{first}");
+                    continue;
+                };
+                let next = u128::from(first) + u128::from(rest);
+                assert!(is_fitting(next), "{first}");
+                assert!(!(u128::from(first)..next).any(is_fitting), "{first}");
+            }
+        }
+    }
+
+    #[test]
+    fn rests_are_0_in_the_empty_plan() {
+        let mut emptied = opened(&[4, 6]);
+        emptied.close(0).unwrap();
+        emptied.close(1).unwrap();
+        for round in border_rounds() {
+            assert_eq!(owner(&Plan::empty(), round), Owner::Idle { rest: 0 });
+            assert_eq!(owner(&emptied, round), Owner::Idle { rest: 0 });
         }
     }
 

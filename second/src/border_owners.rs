@@ -20,7 +20,7 @@ pub fn border_owners() -> Vec<Step> {
 }
 
 /// The border rounds of every open line.
-fn rounds_in(plan: &Plan) -> BTreeSet<u64> {
+pub(crate) fn rounds_in(plan: &Plan) -> BTreeSet<u64> {
     let shown = (0..=LAST_LINE).filter_map(|line| show(plan, line).ok());
     shown.flat_map(|shown| border_rounds(&shown)).collect()
 }
@@ -45,7 +45,7 @@ mod tests {
             assert!(rounds.contains(&border), "{border}");
         }
         for &round in &rounds {
-            assert_eq!(owner(&plan, round), fitting(times, round), "{round}");
+            assert_eq!(owner(&plan, round).line(), fitting(times, round), "{round}");
         }
         let owned = |round: &&u64| fitting(times, **round).is_some();
         let owned = rounds.iter().filter(owned).count();

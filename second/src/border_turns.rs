@@ -103,7 +103,7 @@ pub(crate) fn border_rounds(shown: &Shown) -> BTreeSet<u64> {
 #[cfg(test)]
 mod tests {
     use super::*;
-    use crate::ask::owner;
+    use crate::ask::{owner, Owner};
     use crate::record::Held;
     use crate::script::opens_in_turn;
     use crate::script::tests::answers;
@@ -131,7 +131,7 @@ mod tests {
         }
         let shown = show(&held.plan, 5).unwrap();
         let rounds = border_rounds(&shown);
-        let owned = |&&round: &&u64| owner(&held.plan, round) == Some(5);
+        let owned = |&&round: &&u64| owner(&held.plan, round) == Owner::Line(5);
         assert_eq!(rounds.iter().filter(owned).count(), 3);
         for border in [
             0,

@@ -1,6 +1,6 @@
 //! The marked cases A to I of document 01, and the mistakes that they catch.
 
-use crate::ask::{owner, show, turns, Row};
+use crate::ask::{owner, show, turns, Owner, Row};
 use crate::book;
 use crate::refusal::Refusal::{self, Line, LineNotOpen, LineOpen, NoCandidate};
 use crate::tree::{Node, Period, Plan, Start, Under};
@@ -51,9 +51,9 @@ fn case_a() {
     let mut plan = opened(&[(4, 0), (6, 1), (8, 2)]);
     refused(&mut plan, 3, 2, NoCandidate);
     assert_eq!(plan.open(3, 12), Ok(Start(3)));
-    assert_eq!(owner(&plan, 7), Some(1));
-    assert_eq!(owner(&plan, 10), Some(2));
-    assert_eq!(owner(&plan, 9), None);
+    assert_eq!(owner(&plan, 7), Owner::Line(1));
+    assert_eq!(owner(&plan, 10), Owner::Line(2));
+    assert_eq!(owner(&plan, 9), Owner::Idle { rest: 1 });
     let starts: Vec<_> = (0..4).map(|line| period_and_start(&plan, line)).collect();
     assert_eq!(starts, [(4, 0), (6, 1), (8, 2), (12, 3)]);
 }
@@ -113,7 +113,7 @@ fn case_d() {
     refused(&mut plan, 1, 1, NoCandidate);
     refused(&mut plan, 1, 4_095, NoCandidate);
     for round in [0, 1, 1 << 32, u64::MAX] {
-        assert_eq!(owner(&plan, round), Some(0));
+        assert_eq!(owner(&plan, round), Owner::Line(0));
     }
     let shown = show(&plan, 0).unwrap();
     assert_eq!((shown.period, shown.start), (Period(1), Start(0)));
@@ -141,9 +141,11 @@ fn case_f() {
     let mut path = [Row { weight: 2, edge: 1 }; 11];
     path[10].edge = 0;
     assert_eq!(shown.path, path);
-    assert_eq!(owner(&plan, 1_023), Some(11));
-    assert_eq!(owner(&plan, 2_047), None);
-    assert_eq!(owner(&plan, u64::MAX - 1_024), Some(11));
+    assert_eq!(owner(&plan, 1_023), Owner::Line(11));
+    assert_eq!(owner(&plan, u64::MAX - 1_024), Owner::Line(11));
+    for round in [2_047, u64::MAX] {
+        assert_eq!(owner(&plan, round), Owner::Idle { rest: 1 });
+    }
 }
 
 /// A path shorter than 11 rows is filled up with zeros (Asking the plan, 3).
@@ -159,8 +161,9 @@ fn case_f_unused_rows() {
 #[test]
 fn case_g() {
     let mut plan = opened(&[(4_095, 0)]);
-    assert_eq!(owner(&plan, 4_095), Some(0));
-    assert_eq!(owner(&plan, 4_094), None);
+    assert_eq!(owner(&plan, 4_095), Owner::Line(0));
+    assert_eq!(owner(&plan, 4_094), Owner::Idle { rest: 1 });
+    assert_eq!(owner(&plan, 4_096), Owner::Idle { rest: 4_094 });
     for period in TOO_LARGE.into_iter().chain([0]) {
         refused(&mut plan, 1, period, Refusal::Period);
         refused(&mut Plan::empty(), 1, period, Refusal::Period);
@@ -171,7 +174,7 @@ fn case_g() {
 fn case_h() {
     let mut plan = Plan::empty();
     assert_eq!(plan.open(63, 5), Ok(Start(0)));
-    assert_eq!(owner(&plan, 10), Some(63));
+    assert_eq!(owner(&plan, 10), Owner::Line(63));
     for line in [64, 255, 256, 319, 1 << 32 | 63, u64::MAX] {
         refused(&mut plan, line, 5, Line);
         refused(&mut Plan::empty(), line, 5, Line);
@@ -340,9 +343,10 @@ fn emptied_plan_is_the_fresh_one() {
     }
 }
 
+/// (Ask 4, 3).
 #[test]
 fn empty_plan_owns_nothing() {
     for round in [0, 1, 1 << 32, u64::MAX] {
-        assert_eq!(owner(&Plan::empty(), round), None);
+        assert_eq!(owner(&Plan::empty(), round), Owner::Idle { rest: 0 });
     }
 }

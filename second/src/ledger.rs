@@ -1,8 +1,8 @@
 //! Generated lists measured against a ledger kept apart from the tree. Only for tests.
 
-use crate::ask::{owner, show, turns};
+use crate::ask::{owner, owner_at, show, turns};
 use crate::lists::generate;
-use crate::naive::{expected_start, is_tree};
+use crate::naive::{expected_owner, expected_start, is_tree, Time};
 use crate::orders::{run_order, ORDER_BYTES};
 use crate::random::Random;
 use crate::refusal::Refusal;
@@ -105,14 +105,30 @@ fn run_checked(list: &[u8]) -> (Plan, Ledger) {
     (plan, ledger)
 }
 
-/// The owner against the lines that the round fits (The lists of demand 3, 18 and 19).
+/// The owner, without a rest, against the lines that the round fits (The lists of demand 3, 18
+/// and 19).
 fn assert_owners_agree(plan: &Plan, ledger: &Ledger, rounds: impl Iterator<Item = u64>) {
     let open = ledger.open();
     for round in rounds {
         let fits = |&(_, p, s): &(u8, u16, u16)| round % u64::from(p) == u64::from(s);
         let mut fitting = open.iter().filter(|it| fits(it)).map(|it| it.0);
-        assert_eq!(owner(plan, round), fitting.next(), "{round}");
+        assert_eq!(owner_at(plan, round.into()), fitting.next(), "{round}");
         assert_eq!(fitting.next(), None, "{round}");
+    }
+}
+
+/// The whole answer of owner (document 02, Ask 4), of fewer rounds, since each rest is searched.
+fn assert_rests_agree(plan: &Plan, ledger: &Ledger, rounds: impl Iterator<Item = u64>) {
+    let open = ledger.open().into_iter();
+    let times: Vec<Time> = open
+        .map(|(line, period, start)| Time {
+            line,
+            period,
+            start,
+        })
+        .collect();
+    for round in rounds {
+        assert_eq!(owner(plan, round), expected_owner(&times, round), "{round}");
     }
 }
 
@@ -142,6 +158,10 @@ fn check_lists(shape: Shape, seed: u64, count: usize) {
             let first = last.saturating_sub(random.below(20));
             assert_turns_agree(&plan, &ledger, first, random.below(1_000) as u32);
         }
+        assert_rests_agree(&plan, &ledger, 0..30);
+        assert_rests_agree(&plan, &ledger, (1 << 32) - 15..(1 << 32) + 15);
+        assert_rests_agree(&plan, &ledger, u64::MAX - 30..=u64::MAX);
+        assert_rests_agree(&plan, &ledger, far[..30].iter().copied());
         assert_owners_agree(&plan, &ledger, far.into_iter());
     }
 }
@@ -175,7 +195,7 @@ fn emptied_plans_are_fresh() {
         for (line, _, _) in ledger.open() {
             assert_eq!(plan.close(line.into()), Ok(()));
             assert_eq!(
-                owner(&plan, ledger.lines[usize::from(line)].unwrap().1.into()),
+                owner_at(&plan, ledger.lines[usize::from(line)].unwrap().1.into()),
                 None
             );
         }

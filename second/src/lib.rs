@@ -1,5 +1,5 @@
-//! A second implementation of document 01 and, of document 02, Ask 1 and Ask 3, written from
-//! these documents alone. It writes the outputs that the proved program is tested against.
+//! A second implementation of document 01 and, of document 02, Ask 1, Ask 3 and Ask 4, written
+//! from these documents alone. It writes the outputs that the proved program is tested against.
 //!
 //! Comments cite document 01 as (section, sentence), counted within the section; the one
 //! word before the items of Opening a line is not counted. (Refusals, 3) is refusal 3 of
@@ -10,6 +10,7 @@
 pub mod ask;
 pub mod book;
 pub mod border_owners;
+pub mod border_rests;
 pub mod border_trials;
 pub mod border_turns;
 pub mod drawn_trials;

@@ -265,12 +265,12 @@ mod tests {
         String::from_utf8(text).unwrap()
     }
 
-    /// (Marked cases, I), and the owners after it.
+    /// (Marked cases, I), and the owners after it, when 6@0 alone is open.
     #[test]
     fn case_i_prints_its_answers() {
         let text = printed(&marked_cases());
         let expected = "plan\nlist 18 14 0\n0000 0001 5000 0000 5000 4000\nbeyond 2 ee ee\n\
-            owner 0 1\nowner 1 idle\n";
+            owner 0 1\nowner 1 idle 5\n";
         assert!(text.contains(expected), "{text}");
     }
 
@@ -288,7 +288,7 @@ mod tests {
         }
         assert_eq!(owners[..2], ["owner 0 1", "owner 1 2"]);
         let text = printed(&rooms());
-        assert!(text.contains("list 15 9 8\nbeyond 9 ee ee ee ee ee ee\nowner 0 idle\n"));
+        assert!(text.contains("list 15 9 8\nbeyond 9 ee ee ee ee ee ee\nowner 0 idle 0\n"));
         assert!(text.contains("list 15 10 0\n0000 0001 0002 5000 0003\nbeyond 0\n"));
         assert!(text.contains("list 15 11 0\n0000 0001 0002 5000 0003\nbeyond 1 ee\n"));
     }
@@ -298,9 +298,9 @@ mod tests {
         let text = printed(&lists_in_turn());
         let parts: Vec<&str> = text.split("list ").skip(1).collect();
         assert!(parts[0].starts_with("9 7 0\n0000 0001 0002\nbeyond 1 ee\nowner 0 1\nowner 1 2\n"));
-        assert!(parts[1].starts_with("3 3 0\n0000\nbeyond 1 ee\nowner 0 1\nowner 1 idle\n"));
+        assert!(parts[1].starts_with("3 3 0\n0000\nbeyond 1 ee\nowner 0 1\nowner 1 idle 1\n"));
         assert!(parts[2].starts_with("12 9 0\n3000 4000 5000 6000\nbeyond 1 ee\nowner 0 1\n"));
-        assert!(parts[3].starts_with("6 5 0\n0000 0000\nbeyond 1 ee\nowner 0 idle\n"));
+        assert!(parts[3].starts_with("6 5 0\n0000 0000\nbeyond 1 ee\nowner 0 idle 0\n"));
         assert_eq!(parts[4], parts[0]);
     }
 
@@ -310,18 +310,18 @@ mod tests {
         let parts: Vec<&str> = text.split("plan\n").skip(1).collect();
         assert_eq!(parts.len(), 8);
         let refused = "number 0 4096\nlist 18 15 0\n4000 2000 6000 6000 6000 6000\n\
-            beyond 3 ee ee ee\nnumber 0 4096\nowner 0 idle\n\
+            beyond 3 ee ee ee\nnumber 0 4096\nowner 0 idle 0\n\
             list 18 11 8\nbeyond 11 ee ee ee ee ee ee\nnumber 0 4096\n\
             list 17 12 7\nbeyond 12 ee ee ee ee ee ee\nnumber 0 4096\n\
             list 9 6 0\n4000 0000 0001\nbeyond 0\nnumber 0 0\n\
-            owner 0 1\nowner 1 2\nowner 2 idle\n";
+            owner 0 1\nowner 1 2\nowner 2 idle 3\n";
         assert!(parts[0].contains(refused), "{}", parts[0]);
         let emptied = "number 5 9999\nnumber 700 4096\nlist 9 7 0\n0000 0000 2000\n\
-            beyond 1 ee\nnumber 5 0\nnumber 700 0\nowner 0 idle\n";
+            beyond 1 ee\nnumber 5 0\nnumber 700 0\nowner 0 idle 0\n";
         assert!(parts[7].contains(emptied), "{}", parts[7]);
         let text = printed(&empty_lists());
         assert!(text.ends_with(
-            "number 198 65535\nowner 0 idle\nowner 1 idle\nowner 2 idle\nowner 3 idle\n"
+            "number 198 65535\nowner 0 idle 0\nowner 1 idle 0\nowner 2 idle 0\nowner 3 idle 0\n"
         ));
     }
 
@@ -343,7 +343,7 @@ mod tests {
     fn longest_list_is_run_and_one_order_more_is_refused() {
         let text = printed(&longest_list());
         assert!(text.starts_with("plan\nlist 65535 43689 8\nbeyond 43689 ee"));
-        assert!(text.contains("\nowner 3 idle\nlist 65535 43693 0\n"));
+        assert!(text.contains("\nowner 3 idle 0\nlist 65535 43693 0\n"));
         assert!(text.contains("\nbeyond 3 ee ee ee\nlist 65538 43693 7\nbeyond 43693 ee"));
         let answers = text.lines().filter(|line| line.len() == 79);
         assert_eq!(answers.count(), MOST_ORDERS / 16);

@@ -14,8 +14,8 @@
 //! The plan that a list leaves is the plan of the next step.
 //!
 //! What is printed, words parted by one space:
-//! `plan`; `write PLACE NUMBER`; `number PLACE NUMBER`; `owner ROUND LINE`, or `idle` for
-//! the line; nothing for bytes that are given.
+//! `plan`; `write PLACE NUMBER`; `number PLACE NUMBER`; `owner ROUND LINE`, or
+//! `owner ROUND idle REST`; nothing for bytes that are given.
 //! A list prints `list LENGTH ROOM RESULT`; if it was not refused, the two answer bytes of
 //! each order in hexadecimal, 16 orders to a line; then `beyond COUNT BYTES`, where COUNT
 //! says how many of the lent bytes after the answers (of a refused list: of all) are EE,
@@ -32,6 +32,7 @@ use crate::orders::{answers_length, ANSWER_BYTES};
 use crate::random::Random;
 use crate::record::{drawn_write, Held};
 use crate::refusal::Refusal;
+use crate::script::owned;
 use crate::shapes::Shape;
 use std::io::{self, Write};
 
@@ -137,8 +138,7 @@ fn print_step(held: &mut Held, step: Step, given: &[u8], out: &mut impl Write) -
             writeln!(out, "number {place} {number}")
         }
         Step::Owner { round } => {
-            let line = owner(&held.plan, round).map(|line| line.to_string());
-            writeln!(out, "owner {round} {}", line.unwrap_or("idle".to_string()))
+            writeln!(out, "owner {round} {}", owned(owner(&held.plan, round)))
         }
         Step::Give(_) => Ok(()),
         Step::List { length, room } => {

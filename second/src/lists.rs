@@ -140,7 +140,7 @@ mod tests {
                 }
                 assert!(rounds[44..]
                     .iter()
-                    .all(|&round| owner(&plan, round).is_some()));
+                    .all(|&round| owner(&plan, round).line().is_some()));
                 fitting += rounds.len() - 44;
             }
             assert!(fitting > 0, "{shape:?}");

@@ -1,6 +1,7 @@
-//! A second reading of the candidate rule, over a flat list of the nodes, and of the form
-//! of the tree. Only for tests.
+//! A second reading of the candidate rule, over a flat list of the nodes, of the form of the
+//! tree, and of owner, by periods and starts. Only for tests.
 
+use crate::ask::{show, Owner};
 use crate::tree::{gcd, Node, Plan, Position, Under};
 use std::collections::BTreeMap;
 
@@ -72,6 +73,42 @@ pub(crate) fn expected_start(plan: &Plan, period: u16) -> Option<u16> {
         }
     }
     best.map(|(_, _, start)| start)
+}
+
+/// An open line with its period and start.
+#[derive(Clone, Copy, Debug)]
+pub(crate) struct Time {
+    pub(crate) line: u8,
+    pub(crate) period: u16,
+    pub(crate) start: u16,
+}
+
+/// Those that show answers.
+pub(crate) fn times(plan: &Plan) -> Vec<Time> {
+    let time = |line: u8| {
+        let shown = show(plan, line.into()).ok()?;
+        Some(Time {
+            line,
+            period: shown.period.0,
+            start: shown.start.0,
+        })
+    };
+    (0..64).filter_map(time).collect()
+}
+
+/// The open line that the round fits (The lists of demand 3, 18), or else how many rounds lie
+/// from it to the first that fits one (Ask 4, 2). Period and start of a line give how far on its
+/// next turn is, for a whole number of any size.
+pub(crate) fn expected_owner(times: &[Time], round: u64) -> Owner {
+    let turns = times.iter().map(|it| {
+        let (period, start) = (u64::from(it.period), u64::from(it.start));
+        ((start + period - round % period) % period, it.line)
+    });
+    match turns.min() {
+        None => Owner::Idle { rest: 0 },
+        Some((0, line)) => Owner::Line(line),
+        Some((rest, _)) => Owner::Idle { rest },
+    }
 }
 
 /// The form that every plan must have (The tree, 15 and 16).

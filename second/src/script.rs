@@ -9,19 +9,20 @@
 //!
 //! Each step prints one line, a walk two:
 //! `open LINE PERIOD RESULT START`, with `-` for the start of a refused open;
-//! `close LINE RESULT`; `plan`; `write PLACE NUMBER`; `owner ROUND LINE`, or `idle` for
-//! the line; `show LINE 0 PERIOD START` and the 11 rows, each weight and edge, or
-//! `show LINE RESULT`; `turns LINE FIRST ROUNDS RESULT TURNS`, with `-` where refused;
-//! `walk NEXT OWNED ANSWER NEXT OWNED`, the answer a line, `idle` or `refused 9`, from the
-//! walker by value, then `lent` and the same from the walker on a lent place;
+//! `close LINE RESULT`; `plan`; `write PLACE NUMBER`; `owner ROUND LINE`, or
+//! `owner ROUND idle REST`; `show LINE 0 PERIOD START` and the 11 rows, each weight and edge,
+//! or `show LINE RESULT`; `turns LINE FIRST ROUNDS RESULT TURNS`, with `-` where refused;
+//! `walk NEXT OWNED ANSWER NEXT OWNED`, the answer a line, `idle REST` or `refused 9`, from
+//! the walker by value, then `lent` and the same from the walker on a lent place;
 //! `trial LINE PERIOD 0 START ADDED SPLIT`, with the number of nodes added and `split` or
 //! `whole`, or `trial LINE PERIOD RESULT - - -`.
 //!
 //! A number that is written may leave the record a tree, the same or another, or make it
 //! none, which counts as the empty plan: `record.rs` says which.
 
-use crate::ask::{owner, show, turns, Shown};
+use crate::ask::{owner, show, turns, Owner, Shown};
 use crate::border_owners::border_owners;
+use crate::border_rests::border_rests;
 use crate::border_trials::border_trials;
 use crate::border_turns::border_turns;
 use crate::drawn_trials::with_trials;
@@ -95,7 +96,7 @@ impl Step {
 }
 
 /// The marked cases, then walks at the borders of a place's numbers, turns at those of a first
-/// round, owners at those of a round, and trials at those of a line and a period.
+/// round, owners and rests at those of a round, and trials at those of a line and a period.
 pub fn cases() -> Vec<Step> {
     let marked = marked_cases().into_iter();
     let begun = marked.flat_map(|case| [vec![Step::Begin], case].concat());
@@ -103,6 +104,7 @@ pub fn cases() -> Vec<Step> {
         border_walks(),
         border_turns(),
         border_owners(),
+        border_rests(),
         border_trials(),
     ];
     begun.chain(borders.concat()).collect()
@@ -348,8 +350,12 @@ fn print_question(plan: &Plan, step: Step, out: &mut impl Write) -> io::Result<(
     }
 }
 
-fn owned(line: Option<u8>) -> String {
-    line.map_or("idle".to_string(), |line| line.to_string())
+/// A line, or `idle REST`.
+pub(crate) fn owned(answer: Owner) -> String {
+    match answer {
+        Owner::Line(line) => line.to_string(),
+        Owner::Idle { rest } => format!("idle {rest}"),
+    }
 }
 
 fn shown(answer: Result<Shown, Refusal>) -> String {
@@ -381,7 +387,7 @@ fn print_walks(plan: &Plan, place: Place, out: &mut impl Write) -> io::Result<()
 
 fn walked(before: Place, answer: Answer, after: Place) -> String {
     let answer = match answer {
-        Ok(line) => owned(line),
+        Ok(answer) => owned(answer),
         Err(refusal) => format!("refused {}", refusal.number()),
     };
     format!(
@@ -418,6 +424,7 @@ fn number(answer: Result<(), Refusal>) -> u8 {
 #[cfg(test)]
 pub(crate) mod tests {
     use super::*;
+    use crate::naive::{expected_owner, times};
 
     #[test]
     fn steps_are_read_back_from_their_bytes() {
@@ -477,11 +484,11 @@ pub(crate) mod tests {
                 "4294967295 4294967295 7 4294967296 4294967296",
                 "18446744073709551614 18446744073709551614 7 18446744073709551615 18446744073709551615",
                 // every second one is
-                "1 4294967296 idle 2 4294967296",
+                "1 4294967296 idle 1 2 4294967296",
                 "4294967296 18446744073709551614 7 4294967297 18446744073709551615",
                 // a damaged record
-                "0 0 idle 1 0",
-                "18446744073709551614 1 idle 18446744073709551615 1",
+                "0 0 idle 0 1 0",
+                "18446744073709551614 1 idle 0 18446744073709551615 1",
                 "18446744073709551615 1 refused 9 18446744073709551615 1",
                 "1 18446744073709551615 refused 9 1 18446744073709551615",
             ] {
@@ -518,7 +525,7 @@ pub(crate) mod tests {
                 .lines()
                 .any(|line| line.starts_with("turns") && line.ends_with(answer)));
         }
-        for part in [" refused 9 ", "owner 0 idle"] {
+        for part in [" refused 9 ", "owner 0 idle 0\n", "owner 0 idle 1\n"] {
             assert!(text.contains(part), "{part}");
         }
         for answer in [" 0", " 1", " 4"] {
@@ -564,6 +571,30 @@ pub(crate) mod tests {
             let answer = turns(&held.plan, line, first, rounds).map(u128::from);
             assert_eq!(answer, fitting, "{line} {first} {rounds}");
         }
+    }
+
+    /// After writes too, which no ledger has.
+    #[test]
+    fn rests_are_the_rounds_up_to_one_that_fits() {
+        let mut held = Held::empty();
+        let mut idle = [0; 2];
+        for step in [cases(), stored_lists()].concat() {
+            change(&mut held, step);
+            let (round, answer) = match step {
+                Step::Owner(round) => (round, owner(&held.plan, round)),
+                Step::Walk(place) => match walk(&held.plan, place) {
+                    (Ok(answer), _) => (place.next, answer),
+                    (Err(_), _) => continue,
+                },
+                _ => continue,
+            };
+            let expected = expected_owner(&times(&held.plan), round);
+            assert_eq!(answer, expected, "{round}");
+            if let Owner::Idle { rest } = answer {
+                idle[usize::from(rest > 0)] += 1;
+            }
+        }
+        assert!(idle.iter().all(|&count| count > 100), "{idle:?}");
     }
 
     /// After a number is written the record is no tree, the same tree, or another one.

@@ -1,6 +1,6 @@
 //! Document 01, section The walker.
 
-use crate::ask::owner;
+use crate::ask::{owner, Owner};
 use crate::refusal::Refusal;
 use crate::tree::Plan;
 
@@ -11,8 +11,8 @@ pub struct Place {
     pub owned: u64,
 }
 
-/// The owner of the round, if it has one.
-pub type Answer = Result<Option<u8>, Refusal>;
+/// The owner of the round, with the rest of an idle one (Ask 4, 4).
+pub type Answer = Result<Owner, Refusal>;
 
 /// The walker by value: the answer, and the place after the call (The walker, 2), as found
 /// where it is refused (Refusals, first sentence).
@@ -20,12 +20,12 @@ pub fn walk(plan: &Plan, place: Place) -> (Answer, Place) {
     if place.next == u64::MAX || place.owned == u64::MAX {
         return (Err(Refusal::Place), place);
     }
-    let line = owner(plan, place.next);
+    let answer = owner(plan, place.next);
     let after = Place {
         next: place.next + 1,
-        owned: place.owned + u64::from(line.is_some()),
+        owned: place.owned + u64::from(answer.line().is_some()),
     };
-    (Ok(line), after)
+    (Ok(answer), after)
 }
 
 /// The walker on a place that is lent: the call moves it on itself, and leaves it where it
@@ -33,26 +33,27 @@ pub fn walk(plan: &Plan, place: Place) -> (Answer, Place) {
 pub fn walk_lent(plan: &Plan, place: &mut Place) -> Answer {
     let next = place.next.checked_add(1).ok_or(Refusal::Place)?;
     let one_more = place.owned.checked_add(1).ok_or(Refusal::Place)?;
-    let line = owner(plan, place.next);
+    let answer = owner(plan, place.next);
     place.next = next;
-    if line.is_some() {
+    if let Owner::Line(_) = answer {
         place.owned = one_more;
     }
-    Ok(line)
+    Ok(answer)
 }
 
 #[cfg(test)]
 mod tests {
     use super::*;
 
-    /// (Marked cases, E): one round of two is owned.
+    /// (Marked cases, E): one round of two is owned, the other is right before it.
     #[test]
     fn counts_owned_rounds_only() {
         let mut plan = Plan::empty();
         plan.open(7, 2).unwrap();
         let mut place = Place { next: 0, owned: 0 };
         let mut lent = place;
-        for answer in [Some(7), None, Some(7), None] {
+        let idle = Owner::Idle { rest: 1 };
+        for answer in [Owner::Line(7), idle, Owner::Line(7), idle] {
             let (by_value, after) = walk(&plan, place);
             assert_eq!(by_value, Ok(answer));
             assert_eq!(walk_lent(&plan, &mut lent), Ok(answer));
@@ -75,9 +76,30 @@ mod tests {
             next: most,
             owned: most,
         };
-        assert_eq!(walk(&plan, lent), (Ok(Some(7)), last));
-        assert_eq!(walk_lent(&plan, &mut lent), Ok(Some(7)));
+        assert_eq!(walk(&plan, lent), (Ok(Owner::Line(7)), last));
+        assert_eq!(walk_lent(&plan, &mut lent), Ok(Owner::Line(7)));
         assert_eq!(lent, last);
+    }
+
+    /// 2^64 − 2 leaves 14 when divided by 4,095, so that the next owned round is past 2^64.
+    #[test]
+    fn both_forms_hand_the_rest_on() {
+        let mut longest = Plan::empty();
+        longest.open(7, 4_095).unwrap();
+        for (plan, next, rest) in [
+            (&longest, 1, 4_094),
+            (&longest, 4_094, 1),
+            (&longest, u64::MAX - 1, 4_081),
+            (&Plan::empty(), 0, 0),
+            (&Plan::empty(), u64::MAX - 1, 0),
+        ] {
+            let mut lent = Place { next, owned: 9 };
+            let (by_value, after) = walk(plan, lent);
+            assert_eq!(by_value, Ok(Owner::Idle { rest }));
+            assert_eq!(walk_lent(plan, &mut lent), by_value);
+            let next = next + 1;
+            assert_eq!([after, lent], [Place { next, owned: 9 }; 2]);
+        }
     }
 
     #[test]

@@ -8,11 +8,12 @@ use mathlib.Core.List.{List}
 use mathlib.Core.Option.{none, some}
 use Rattle.tree.specs.Search.{found}
 use Rattle.tree.specs.Tree.{Tree, nothing, product, sum, path, is-open, period-of, start-of}
-use Rattle.tree.specs.Asking.{owner, rows-11, shown, turns}
+use Rattle.tree.specs.Asking.{owner, idle-for, owner-or-rest, rows-11, shown, turns}
 use Rattle.tree.specs.Refusals.{line-refusal}
 use Rattle.tree.specs.Calls.{gives, refuses, gives-unless, show-outcome, turns-outcome}
 use Rattle.tree.specs.Record.{path-at, no-rows, legal}
 use Rattle.paths.specs.Rules.{owner-on-paths}
+use Rattle.tree.proofs.Resting.{answer-in-empty}
 use Rattle.tree.proofs.Checks.{line-refused-1, line-refused-4, close-allowed}
 use Rattle.bridge.specs.Rows.{tree-of}
 use Rattle.bridge.proofs.TreeOfRecord.{treeOf-illegal, legal-on-record, paths-on-record, open-on-record}
@@ -42,9 +43,8 @@ module _ (rows : List ℕ) where
     unfolding tree-of
     empty-on-illegal = treeOf-illegal (record { rows = rows }) illegal
 
-    pub owner-on-illegal : (n : ℕ) → owner n (tree-of rows) ≡ none
-    unfolding owner
-    owner-on-illegal n = ap (owner n) empty-on-illegal
+    pub owner-on-illegal : (n : ℕ) → owner-or-rest n (tree-of rows) ≡ idle-for 0
+    owner-on-illegal n = answer-in-empty n (tree-of rows) empty-on-illegal
 
     closed-on-illegal : (L : ℕ) → is-open L (tree-of rows) ≡ false
     unfolding is-open path found

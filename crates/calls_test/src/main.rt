@@ -12,6 +12,7 @@ use plan::walker::Walked;
 use plan::walker::WalkerPlace;
 use test_script::decimal;
 use test_script::first_number;
+use test_script::idle;
 use test_script::run_owner;
 use test_script::second_number;
 use test_script::text;
@@ -180,7 +181,7 @@ fn print_walk(form: &[u8], before: WalkerPlace, walked: Walked) {
     text(b" ");
     match answer {
         WalkAnswer::Line(line) => decimal(line),
-        WalkAnswer::Idle => text(b"idle"),
+        WalkAnswer::Idle(rest) => idle(rest),
         WalkAnswer::Refused(number) => {
             text(b"refused ");
             decimal(number as u64);

@@ -11,7 +11,7 @@ use mir.Syntax.{w64}
 use mir.Val.{toZ, ofZ}
 use Rattle.tree.specs.Search.{if_then_else_}
 use Rattle.tree.specs.Tree.{Tree}
-use Rattle.tree.specs.Asking.{owner}
+use Rattle.tree.specs.Asking.{OwnerOrRest, owner-or-rest}
 use Rattle.tree.specs.Refusals.{first-refusal, line-above-63}
 use Rattle.tree.specs.Calls.{Call, open-line, close-line, Answer, Outcome, gives, refuses, gives-unless, turns-outcome}
 use Rattle.tree.specs.Trial.{Trial, trial-outcome}
@@ -31,7 +31,7 @@ use Rattle.orders.specs.declared.Bytes.{Bytes}
 use Rattle.lists.specs.declared.ListAnswer.{ListAnswer}
 use Rattle.lists.specs.Runs.{refusal-in, ListRan}
 use Rattle.gaplinte.specs.Answer.{answer-number, IsAnswer, zero-value, numbers-or}
-use Rattle.gaplinte.specs.Served.{change-outcome, ChangeServed, line-or-64, owner-outcome, tried-numbers, TrialServed, line-number, place-of, place-numbers, WalkServed, list-outcome, ListServed}
+use Rattle.gaplinte.specs.Served.{change-outcome, ChangeServed, owner-value, owner-outcome, tried-numbers, TrialServed, walk-value, place-of, place-numbers, WalkServed, list-outcome, ListServed}
 use Rattle.gaplinte.specs.OrdersServed.{byte-numbers, PackServed}
 use Rattle.gaplinte.proofs.Answering.{answer-read-back}
 
@@ -56,10 +56,10 @@ close-served L before after a b r carried told is = change-served (close-line L)
 
 -- Owner and turns
 
-pub owner-served : (round : ℕ) (rows : List ℕ) (a b : OwnerAnswer) (r : ℤ) → owner-answer a ≡ owner round (tree-of rows) → a ≡ b →
-    IsAnswer (gives (line-or-64 (owner-answer b))) r → toZ w64 (ofZ w64 r) ≡ answer-number (owner-outcome round rows)
+pub owner-served : (round : ℕ) (rows : List ℕ) (a b : OwnerAnswer) (r : ℤ) → owner-answer a ≡ owner-or-rest round (tree-of rows) → a ≡ b →
+    IsAnswer (gives (owner-value (owner-answer b))) r → toZ w64 (ofZ w64 r) ≡ answer-number (owner-outcome round rows)
 unfolding owner-outcome
-owner-served round rows a b r asked told is = answer-read-back _ r is ∙ ap (λ (o : Option ℕ). answer-number (gives (line-or-64 o))) (ap owner-answer (sym told) ∙ asked)
+owner-served round rows a b r asked told is = answer-read-back _ r is ∙ ap (λ (o : OwnerOrRest). answer-number (gives (owner-value o))) (ap owner-answer (sym told) ∙ asked)
 
 pub turns-served : (L first N : ℕ) (t : Tree) (a b : TurnsAnswer) (r : ℤ) → turns-answer a ≡ turns-outcome L first N t → a ≡ b →
     IsAnswer (turns-answer b) r → toZ w64 (ofZ w64 r) ≡ answer-number (turns-outcome L first N t)
@@ -105,11 +105,11 @@ module _ (rows : List ℕ) (L p q : ℕ) (lent : List ℕ) (asked : q ≡ (if lt
 -- The walker
 
 pub walk-served : (rows place : List ℕ) (a b : WalkAnswer) (next : WalkerPlace) (r : ℤ) → WalkedOn (place-of place) (tree-of rows) a next → a ≡ b →
-    IsAnswer (line-number (walk-answer b)) r → WalkServed rows place (next .next ∷ next .owned ∷ []) (toZ w64 (ofZ w64 r))
+    IsAnswer (walk-value (walk-answer b)) r → WalkServed rows place (next .next ∷ next .owned ∷ []) (toZ w64 (ofZ w64 r))
 unfolding place-numbers
 walk-served rows place a b next r walked told is =
     record {
-      answer-is = answer-read-back _ r is ∙ ap (λ (o : Outcome (Option ℕ)). answer-number (line-number o)) (ap walk-answer (sym told) ∙ walked .answer-is);
+      answer-is = answer-read-back _ r is ∙ ap (λ (o : Outcome OwnerOrRest). answer-number (walk-value o)) (ap walk-answer (sym told) ∙ walked .answer-is);
       place-is = ap place-numbers (walked .place-is);
     }
 

@@ -15,7 +15,7 @@ use Rattle.tree.specs.Search.{if_then_else_}
 use Rattle.tree.specs.Tree.{Tree, is-open}
 use Rattle.tree.specs.Shape.{Legal}
 use Rattle.tree.specs.Opening.{opened, start-given}
-use Rattle.tree.specs.Asking.{owner}
+use Rattle.tree.specs.Asking.{owner-or-rest}
 use Rattle.tree.specs.Refusals.{first-refusal, line-above-63, line-refusal}
 use Rattle.tree.specs.Calls.{Call, open-line, close-line, refusal, reply, answer-unless, answer, Outcome, gives, refuses, gives-unless, show-outcome, turns-outcome}
 use Rattle.tree.specs.Trial.{trial-outcome}
@@ -33,9 +33,9 @@ use Rattle.orders.specs.Reading.{reading}
 use Rattle.lists.specs.Lists.{length-refused, room-refused, list-refusal}
 use Rattle.lists.proofs.AnswersFit.{Small, small-if, refusal-small, reading-small}
 use Rattle.gaplinte.specs.Answer.{answer-number, zero-value, outcome-told, InRange, Tells, narrowed}
-use Rattle.gaplinte.specs.Served.{change-outcome, ChangeServed, line-or-64, owner-outcome, tree-outcome, ShowServed, TrialServed, line-number, place-of, WalkServed, list-outcome, ListServed}
+use Rattle.gaplinte.specs.Served.{change-outcome, ChangeServed, owner-value, owner-outcome, tree-outcome, ShowServed, TrialServed, walk-value, place-of, WalkServed, list-outcome, ListServed}
 use Rattle.gaplinte.specs.OrdersServed.{bytes-in, PackServed, ReadServed}
-use Rattle.gaplinte.proofs.ValuesBelow.{owner-below-64, turns-at-most}
+use Rattle.gaplinte.proofs.ValuesBelow.{owner-at-most, turns-at-most}
 
 -- An outcome in range is told
 
@@ -118,21 +118,17 @@ change-in-range c t is-legal = by-refusal (refusal c t) refl (refusal-small c t)
     by-refusal none e small = reply-in-range c t is-legal e
     by-refusal (some n) e small = refused-in-range n small
 
-line-in-range : (round : ℕ) (t : Tree) → Legal t → InRange (gives (line-or-64 (owner round t)))
-unfolding InRange line-or-64
-line-in-range round t is-legal = by-owner (owner round t) refl
-  where
-    by-owner : (o : Option ℕ) → owner round t ≡ o → line-or-64 o < 2 ^ 32
-    by-owner none e = omega arith
-    by-owner (some L) e = let below = owner-below-64 round t L is-legal e in omega arith
+owner-in-range : (round : ℕ) (t : Tree) → Legal t → InRange (gives (owner-value (owner-or-rest round t)))
+unfolding InRange
+owner-in-range round t is-legal = omega (arith, owner-at-most round t is-legal)
 
-walk-in-range : (place : WalkerPlace) (t : Tree) → Legal t → InRange (line-number (walk-outcome place t))
-unfolding walk-outcome line-number
+walk-in-range : (place : WalkerPlace) (t : Tree) → Legal t → InRange (walk-value (walk-outcome place t))
+unfolding walk-outcome walk-value
 walk-in-range place t is-legal = by-end (at-end place)
   where
-    by-end : (b : Bool) → InRange (line-number (if b then refuses 9 else gives (owner (place .next) t)))
+    by-end : (b : Bool) → InRange (walk-value (if b then refuses 9 else gives (owner-or-rest (place .next) t)))
     by-end true = refused-in-range 9 (omega arith, omega arith)
-    by-end false = line-in-range (place .next) t is-legal
+    by-end false = owner-in-range (place .next) t is-legal
 
 tree-in-range : (rows : List ℕ) → InRange (tree-outcome rows)
 unfolding InRange tree-outcome
@@ -149,7 +145,7 @@ change-tells c before after r served = tells _ r (change-in-range c _ (legal-on-
 
 pub owner-tells : (round : ℕ) (rows : List ℕ) (r : ℤ) → r ≡ answer-number (owner-outcome round rows) → Tells (owner-outcome round rows) r
 unfolding owner-outcome
-owner-tells round rows r is = tells _ r (line-in-range round _ (legal-on-record rows)) is
+owner-tells round rows r is = tells _ r (owner-in-range round _ (legal-on-record rows)) is
 
 pub tree-tells : (rows : List ℕ) (r : ℤ) → r ≡ answer-number (tree-outcome rows) → Tells (tree-outcome rows) r
 tree-tells rows r is = tells _ r (tree-in-range rows) is
@@ -167,7 +163,7 @@ pub trial-tells : (rows : List ℕ) (L p : ℕ) (before after : List ℕ) (r : �
 unfolding trial-outcome refusal
 trial-tells rows L p before after r served = tells _ r (zero-in-range _ _ (refusal-small (open-line L p) _)) (served .answer-is)
 
-pub walk-tells : (rows before after : List ℕ) (r : ℤ) → WalkServed rows before after r → Tells (line-number (walk-outcome (place-of before) (tree-of rows))) r
+pub walk-tells : (rows before after : List ℕ) (r : ℤ) → WalkServed rows before after r → Tells (walk-value (walk-outcome (place-of before) (tree-of rows))) r
 walk-tells rows before after r served = tells _ r (walk-in-range _ _ (legal-on-record rows)) (served .answer-is)
 
 pub list-tells : (before orders lent after written : List ℕ) (r : ℤ) → ListServed before orders lent after written r →

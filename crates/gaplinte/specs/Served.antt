@@ -1,13 +1,13 @@
 -- What each call of the library gives, for every record and every number.
 -- Assumes nothing.
-use Prim.Native.Nat.{ℕ}
+use Prim.Native.Nat.{ℕ, _+_}
 use mathlib.Core.Path.{_≡_}
 use mathlib.Core.List.{List, [], _∷_}
-use mathlib.Core.Option.{Option, none, some}
+use mathlib.Core.Option.{Option}
 use lib.IntN.{ℤ}
 use lib.ListN.{length, getD}
 use Rattle.tree.specs.Search.{if_then_else_}
-use Rattle.tree.specs.Asking.{owner, Shown}
+use Rattle.tree.specs.Asking.{OwnerOrRest, owned-by, idle-for, owner-or-rest, Shown}
 use Rattle.tree.specs.Calls.{Call, Answer, booked, done, refused, answer, Outcome, gives, refuses, gives-unless, show-outcome}
 use Rattle.tree.specs.Trial.{Trial, trial-outcome}
 use Rattle.tree.specs.Record.{legal, numbers}
@@ -33,14 +33,14 @@ pub record ChangeServed (c : Call) (before after : List ℕ) (r : ℤ) : Type 0 
 
 -- Owner
 
--- (Asking the plan, 1) The value is the line, or 64, which is no line, where the round is idle.
-unfoldable pub line-or-64 : Option ℕ → ℕ
-line-or-64 (some L) = L
-line-or-64 none = 64
+-- (Asking the plan, 1; Ask 4, 2) The value is the line or, where the round is idle, 64, which is no line, and the rest.
+unfoldable pub owner-value : OwnerOrRest → ℕ
+owner-value (owned-by L) = L
+owner-value (idle-for g) = 64 + g
 
 -- (Asking the plan, 2) the owner of a round by a lent record: no outcome of it is a refusal
 unfoldable pub owner-outcome : ℕ → List ℕ → Outcome ℕ
-owner-outcome round rows = gives (line-or-64 (owner round (tree-of rows)))
+owner-outcome round rows = gives (owner-value (owner-or-rest round (tree-of rows)))
 
 -- A tree
 
@@ -72,10 +72,10 @@ pub record TrialServed (rows : List ℕ) (L p : ℕ) (before after : List ℕ) (
 
 -- The walker
 
--- the value is the line, or 64 where the round is idle
-unfoldable pub line-number : Outcome (Option ℕ) → Outcome ℕ
-line-number (gives o) = gives (line-or-64 o)
-line-number (refuses n) = refuses n
+-- (Ask 4, 4) the value is that of the owner call
+unfoldable pub walk-value : Outcome OwnerOrRest → Outcome ℕ
+walk-value (gives o) = gives (owner-value o)
+walk-value (refuses n) = refuses n
 
 -- (The walker, 1) A place as two numbers: the next round, and the count of owned rounds.
 unfoldable pub place-of : List ℕ → WalkerPlace
@@ -86,7 +86,7 @@ place-numbers p = p .next ∷ p .owned ∷ []
 
 -- (The walker, 2) A walker call on a lent record and a lent place: its answer, and the place moved on, as found where the call is refused.
 pub record WalkServed (rows before after : List ℕ) (r : ℤ) : Type 0 where
-  pub answer-is : r ≡ answer-number (line-number (walk-outcome (place-of before) (tree-of rows)))
+  pub answer-is : r ≡ answer-number (walk-value (walk-outcome (place-of before) (tree-of rows)))
   pub place-is : after ≡ place-numbers (place-after (place-of before) (tree-of rows))
 
 -- A list of orders

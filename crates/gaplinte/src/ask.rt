@@ -8,7 +8,7 @@ use crate::answers;
 use plan::ask::OwnerAnswer;
 use plan::ask::TurnsAnswer;
 
-// The owner of a round: its line, or 64 where the round is idle. It is never refused.
+// The owner of a round: its line, or 64 and the rest where the round is idle. It is never refused.
 #[no_mangle]
 pub extern "C" fn gaplinte_owner(rows: &[u16; 1408], round: u64) -> i64
     ensures { λ r. ⌜ r ≡ answer-number (owner-outcome round (now (rows .entry))) ⌝ }
@@ -16,7 +16,7 @@ pub extern "C" fn gaplinte_owner(rows: &[u16; 1408], round: u64) -> i64
     let answer = plan::ask::owner_rows(rows, round);
     match answer {
         OwnerAnswer::Line(line) => answers::value(line),
-        OwnerAnswer::Idle => answers::value(64),
+        OwnerAnswer::Idle(rest) => answers::value(64 + rest as u64),
     }
 }
 

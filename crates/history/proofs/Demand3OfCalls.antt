@@ -1,17 +1,19 @@
 -- Demand 3 of the program's own calls (specs/Ran.antt): a list that was run has the answers and the tree of the rules, so the claim holds of it.
 -- Assumes nothing.
 use Prim.Native.Nat.{ℕ}
+use native.Mathlib.Omega.{arith}
 use mathlib.Core.Path.{_≡_, refl, sym, _∙_, ap, subst}
 use mathlib.Core.List.{List, [], _∷_}
 use mathlib.Core.Logic.{_↔_}
-use mathlib.Core.Option.{Option, none, some, Option·none-ne-some}
+use mathlib.Core.Option.{Option, none, some}
 use Rattle.tree.specs.declared.Plan.{Plan}
 use Rattle.tree.specs.Tree.{Tree, nothing}
-use Rattle.tree.specs.Asking.{owner}
+use Rattle.tree.specs.Asking.{owned-by, owner-or-rest}
 use Rattle.tree.specs.Calls.{Call, open-line, close-line, Answer, refusal, reply, carried-out, answer-unless, answer, after}
 use Rattle.tree.specs.Lists.{Entry, calls-of, reference-from, reference, answered-from}
 use Rattle.tree.specs.Demand3.{Demand3}
 use Rattle.tree.specs.Record.{treeOf, recordOf}
+use Rattle.tree.proofs.Resting.{owned-exactly}
 use Rattle.tree.proofs.Demand3.{demand-3}
 use Rattle.plan.specs.declared.ask.OwnerAnswer.{OwnerAnswer}
 use Rattle.plan.specs.declared.ask.OwnerAnswer.the-variants.{Line, Idle}
@@ -68,18 +70,19 @@ demand-3-of-calls entries plan ran =
 -- The owner call
 
 -- an answer of the owner call is a line where document 01's answer is that line
-line-named : (a : OwnerAnswer) (L : ℕ) → (a ≡ Line L) ↔ (owner-answer a ≡ some L)
+line-named : (a : OwnerAnswer) (L : ℕ) → (a ≡ Line L) ↔ (owner-answer a ≡ owned-by L)
 unfolding owner-answer
 line-named (Line n) L = (λ e. cc, λ e. cc)
-line-named Idle L = (λ e. ap owner-answer e, λ e. absurd (Option·none-ne-some L e))
+line-named (Idle g) L = (λ e. ap owner-answer e, λ e. let z : _≡_ {A = ℕ} 0 1 = cc in absurd (omega arith))
 
 -- where the claim holds, the owner call names the owner
-pub demand-3-names-owner : (entries : List Entry) (t : Tree) → Demand3 entries t → (round : ℕ) (a : OwnerAnswer) → owner-answer a ≡ owner round t → NamesOwner entries round a
+pub demand-3-names-owner : (entries : List Entry) (t : Tree) → Demand3 entries t → (round : ℕ) (a : OwnerAnswer) → owner-answer a ≡ owner-or-rest round t → NamesOwner entries round a
 unfolding NamesOwner
 demand-3-names-owner entries t claim round a asked L =
     let named = line-named a L in
+    let answered = owned-exactly round t L in
     let owned = claim .ownership round L in
-    (λ e. owned .0 (sym asked ∙ named .0 e), λ fits. named .1 (asked ∙ owned .1 fits))
+    (λ e. owned .0 (answered .0 (sym asked ∙ named .0 e)), λ fits. named .1 (asked ∙ answered .1 (owned .1 fits)))
 
 pub owner-of-calls : OwnerOfCalls
 unfolding OwnerOfCalls Demand3OfCalls

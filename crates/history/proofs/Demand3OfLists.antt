@@ -14,6 +14,7 @@ use Rattle.tree.specs.Lists.{all-closed, Entry, calls-of, reference-from, answe
 use Rattle.tree.specs.Demand3.{Demand3}
 use Rattle.tree.specs.Record.{treeOf, recordOf}
 use Rattle.tree.proofs.Agreement.{agree-at-first, agree-along}
+use Rattle.bridge.proofs.TreeOfRecord.{treeOf-legal}
 use Rattle.bridge.proofs.RecordRoundTrip.{record-has-tree}
 use Rattle.orders.specs.Reading.{reading}
 use Rattle.orders.proofs.ReadingChecks.{readable-is-read, unreadable-is-refused}
@@ -24,6 +25,7 @@ use Rattle.plan.specs.Meets.{empty-plan}
 use Rattle.plan.proofs.Changes.{empty-tree}
 use Rattle.history.specs.OrdersRun.{OrdersAnswered, no-order, can-be-read, cannot-be-read, Demand3OfLists}
 use Rattle.history.proofs.Demand3OfCalls.{ByTheRules, rules-demand-3, demand-3-names-owner}
+use Rattle.history.proofs.RestOfCalls.{demand-3-tells-rest}
 
 -- The orders that can be read
 
@@ -84,6 +86,7 @@ demand-3-of-lists orders lent left written ran =
       bytes-are = rw (sym (ran .refusal-is), empty-tree) at (ran .bytes-are);
       demand-3 = claim;
       owner-named = demand-3-names-owner (run .entries) (treeOf left) claim;
+      rest-told = demand-3-tells-rest (run .entries) (treeOf left) (treeOf-legal left) claim;
     }
   where
     ns : List ℕ

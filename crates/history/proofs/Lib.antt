@@ -1,5 +1,6 @@
 pub mod Demand3OfCalls
 pub mod Demand3OfRows
+pub mod RestOfCalls
 pub mod Demand3OfLibrary
 pub mod TriedInLibrary
 pub mod Demand3OfLists

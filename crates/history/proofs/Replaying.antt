@@ -13,7 +13,7 @@ use lib.Seq.{drop-cons, set-at}
 use Rattle.tree.specs.declared.Plan.{Plan}
 use Rattle.tree.specs.Search.{if_then_else_}
 use Rattle.tree.specs.Calls.{Call, open-line, Answer, refusal, carried-out}
-use Rattle.tree.specs.Asking.{owner}
+use Rattle.tree.specs.Asking.{owner-or-rest}
 use Rattle.tree.specs.Lists.{Entry, calls-of}
 use Rattle.tree.specs.Record.{treeOf, recordOf}
 use Rattle.bridge.specs.Rows.{tree-of, rows-unless, rows-after, CarriedOut}
@@ -22,9 +22,10 @@ use Rattle.plan.specs.declared.ask.OwnerAnswer.{OwnerAnswer}
 use Rattle.plan.specs.Ask.{owner-answer}
 use Rattle.plan.specs.Meets.{empty-plan, plan-unless, plan-after, Meets}
 use Rattle.plan.proofs.Changes.{carried-meets}
-use Rattle.history.specs.Ran.{handed-on, Ran, Demand3OfCalls, OwnerOfCalls}
+use Rattle.history.specs.Ran.{handed-on, Ran, Demand3OfCalls, OwnerOfCalls, RestOfCalls}
 use Rattle.history.specs.Replay.{call-at, first-calls, answer-number, answer-numbers, CallRan, RanFirst, Replays, ReplaysAndOwns}
 use Rattle.history.proofs.Demand3OfCalls.{returned-is-handed-on, demand-3-of-calls, owner-of-calls}
+use Rattle.history.proofs.RestOfCalls.{rest-of-calls}
 
 -- One call more
 
@@ -128,14 +129,15 @@ module _ (numbers before : List ℕ) (count : ℕ) where
 -- The owner call on the plan that was left
 
 pub owner-after-replay : (numbers before after : List ℕ) (count : ℕ) (plan : Plan) → Replays numbers before after count plan →
-    (round : ℕ) (a : OwnerAnswer) → owner-answer a ≡ owner round (treeOf plan) → ReplaysAndOwns numbers before after round a
-unfolding OwnerOfCalls
+    (round : ℕ) (a : OwnerAnswer) → owner-answer a ≡ owner-or-rest round (treeOf plan) → ReplaysAndOwns numbers before after round a
+unfolding OwnerOfCalls RestOfCalls
 owner-after-replay numbers before after count plan replays round a asked =
     record {
       count = count;
       plan = plan;
       replays = replays;
       names-owner = owner-of-calls (replays .first .entries) plan (replays .first .ran) round a asked;
+      tells-rest = rest-of-calls (replays .first .entries) plan (replays .first .ran) round a asked;
     }
 
 -- A period above 4,095

@@ -7,7 +7,7 @@ use mathlib.Core.List.{List, [], _∷_, _++_}
 use mathlib.Core.Option.{none}
 use lib.ListN.{length, drop}
 use Rattle.tree.specs.declared.Plan.{Plan}
-use Rattle.tree.specs.Asking.{owner}
+use Rattle.tree.specs.Asking.{owner-or-rest}
 use Rattle.tree.specs.Calls.{Call, Answer, refused, gives, refuses}
 use Rattle.tree.specs.Lists.{Entry}
 use Rattle.tree.specs.Demand3.{Demand3}
@@ -18,7 +18,7 @@ use Rattle.lists.specs.Runs.{ListRan}
 use Rattle.plan.specs.declared.ask.OwnerAnswer.{OwnerAnswer}
 use Rattle.plan.specs.Ask.{owner-answer}
 use Rattle.plan.specs.Meets.{empty-plan}
-use Rattle.history.specs.Ran.{NamesOwner}
+use Rattle.history.specs.Ran.{NamesOwner, TellsRest}
 
 -- `OrdersAnswered orders entries answers`: the entries are the calls of the orders that can be read, with their answers.
 -- The answers are those of all orders, in their sequence: such an order has the answer of its entry, and every other is refused with 6.
@@ -39,7 +39,8 @@ pub record Demand3OfOrders (orders lent : List ℕ) (after : Plan) (written : Li
   -- the whole claim, of the calls that were read and of the tree of the plan that the list left
   pub demand-3 : Demand3 entries (treeOf after)
   -- and the owner call, put to that plan
-  pub owner-named : (round : ℕ) (a : OwnerAnswer) → owner-answer a ≡ owner round (treeOf after) → NamesOwner entries round a
+  pub owner-named : (round : ℕ) (a : OwnerAnswer) → owner-answer a ≡ owner-or-rest round (treeOf after) → NamesOwner entries round a
+  pub rest-told : (round : ℕ) (a : OwnerAnswer) → owner-answer a ≡ owner-or-rest round (treeOf after) → TellsRest entries round a
 
 -- Demand 3 of every list of orders that is not refused.
 unfoldable pub Demand3OfLists : Type 0

@@ -1,19 +1,19 @@
 -- Demand 3 of the program's own calls (document 01, The lists of demand 3): the lists that can be run, and the claim about each.
 -- A call's answer and its plan are those that its contract allows (`Meets` of crate plan); the claim itself is `Demand3` of crate tree.
 -- Assumes nothing.
-use Prim.Native.Nat.{ℕ}
+use Prim.Native.Nat.{ℕ, _+_, _<_, _≤_}
 use mathlib.Core.Path.{_≡_}
 use mathlib.Core.Logic.{_↔_}
 use mathlib.Core.List.{List, [], _∷_}
 use mathlib.Core.Option.{some}
 use Rattle.tree.specs.declared.Plan.{Plan}
 use Rattle.tree.specs.Calls.{Answer, booked, done, refused}
-use Rattle.tree.specs.Asking.{owner}
+use Rattle.tree.specs.Asking.{owner-or-rest}
 use Rattle.tree.specs.Lists.{Booking, Entry, ledger-of, RoundFits}
-use Rattle.tree.specs.Demand3.{Demand3}
+use Rattle.tree.specs.Demand3.{SomeOpen, Demand3}
 use Rattle.tree.specs.Record.{treeOf}
 use Rattle.plan.specs.declared.ask.OwnerAnswer.{OwnerAnswer}
-use Rattle.plan.specs.declared.ask.OwnerAnswer.the-variants.{Line}
+use Rattle.plan.specs.declared.ask.OwnerAnswer.the-variants.{Line, Idle}
 use Rattle.plan.specs.Ask.{owner-answer}
 use Rattle.plan.specs.Meets.{empty-plan, Meets}
 
@@ -41,4 +41,24 @@ NamesOwner entries round a = (L : ℕ) → (a ≡ Line L) ↔ ((b : Booking) × 
 unfoldable pub OwnerOfCalls : Type 0
 OwnerOfCalls =
     (entries : List Entry) (plan : Plan) → Ran empty-plan entries plan →
-    (round : ℕ) (a : OwnerAnswer) → owner-answer a ≡ owner round (treeOf plan) → NamesOwner entries round a
+    (round : ℕ) (a : OwnerAnswer) → owner-answer a ≡ owner-or-rest round (treeOf plan) → NamesOwner entries round a
+
+-- (Ask 4, 2, 3) By the ledger, g rounds lie from the round to the next owned one.
+pub record RestsFor (entries : List Entry) (round g : ℕ) : Type 0 where
+  -- 0 exactly when no line is open
+  pub zero-exactly : (g ≡ 0) ↔ (SomeOpen (ledger-of entries) → ⊥)
+  -- where one is, the round after so many fits an open line
+  pub next-owned : SomeOpen (ledger-of entries) → (L : ℕ) × (b : Booking) × (ledger-of entries L ≡ some b) × RoundFits (round + g) b
+  -- and no round before that one does
+  pub none-before : (k : ℕ) → k < g → (L : ℕ) (b : Booking) → ledger-of entries L ≡ some b → RoundFits (round + k) b → ⊥
+  pub at-most : g ≤ 4094
+
+-- An idle answer of the owner call tells that rest.
+unfoldable pub TellsRest : List Entry → ℕ → OwnerAnswer → Type 0
+TellsRest entries round a = (g : ℕ) → a ≡ Idle g → RestsFor entries round g
+
+-- (Ask 4, 4) So it is with each answer of the owner call that its contract allows, put to the plan that the list leaves.
+unfoldable pub RestOfCalls : Type 0
+RestOfCalls =
+    (entries : List Entry) (plan : Plan) → Ran empty-plan entries plan →
+    (round : ℕ) (a : OwnerAnswer) → owner-answer a ≡ owner-or-rest round (treeOf plan) → TellsRest entries round a

@@ -1,7 +1,7 @@
 -- Demand 3 of the exported calls `gaplinte_open`, `gaplinte_close` and `gaplinte_owner`, from an all-zero record: the lists that can be run, and the claim about each.
 -- What a call answers and leaves in the record is what its contract allows (`ChangeServed` of crate gaplinte). The claim itself is `Demand3` of crate tree.
 -- Assumes nothing.
-use Prim.Native.Nat.{ℕ, suc, _≤_}
+use Prim.Native.Nat.{ℕ, suc, _+_, _≤_}
 use mathlib.Core.Path.{_≡_}
 use mathlib.Core.Logic.{_↔_}
 use mathlib.Core.List.{List, [], _∷_}
@@ -14,6 +14,7 @@ use Rattle.tree.specs.Demand3.{Demand3}
 use Rattle.bridge.specs.Rows.{tree-of}
 use Rattle.gaplinte.specs.Answer.{answer-number}
 use Rattle.gaplinte.specs.Served.{ChangeServed, owner-outcome}
+use Rattle.history.specs.Ran.{RestsFor}
 
 -- one call of a list with the number that it answered
 pub record Answered : Type 0 where
@@ -43,9 +44,15 @@ unfoldable pub Demand3OfLibrary : Type 0
 Demand3OfLibrary = (calls : List Answered) (rows : List ℕ) → RanInLibrary (replicate 1408 0) calls rows → Demand3 (entries-told calls) (tree-of rows)
 
 -- (The lists of demand 3, 19) The owner call is put to the record that the list leaves: its number names line L exactly when the ledger has L open and the round fits it.
--- 64, the number for an idle round, names no line.
+-- 64 and more, the numbers for an idle round, name no line.
 unfoldable pub OwnerOfLibrary : Type 0
 OwnerOfLibrary =
     (calls : List Answered) (rows : List ℕ) → RanInLibrary (replicate 1408 0) calls rows →
     (round : ℕ) (r : ℤ) → r ≡ answer-number (owner-outcome round rows) →
     (L : ℕ) → ((r ≡ pos L) × (L ≤ 63)) ↔ ((b : Booking) × (ledger-of (entries-told calls) L ≡ some b) × RoundFits round b)
+
+-- (Ask 4, 4) And where its number is 64 or more, what is above 64 is the rest.
+unfoldable pub RestOfLibrary : Type 0
+RestOfLibrary =
+    (calls : List Answered) (rows : List ℕ) → RanInLibrary (replicate 1408 0) calls rows →
+    (round : ℕ) (r : ℤ) → r ≡ answer-number (owner-outcome round rows) → (g : ℕ) → r ≡ pos (64 + g) → RestsFor (entries-told calls) round g

@@ -4,14 +4,14 @@
 use Prim.Native.Nat.{ℕ}
 use mathlib.Core.Path.{_≡_}
 use mathlib.Core.List.{List, [], _∷_}
-use Rattle.tree.specs.Asking.{owner}
+use Rattle.tree.specs.Asking.{owner-or-rest}
 use Rattle.tree.specs.Lists.{Entry}
 use Rattle.tree.specs.Demand3.{Demand3}
 use Rattle.bridge.specs.Rows.{tree-of, CarriedOut}
 use Rattle.plan.specs.declared.ask.OwnerAnswer.{OwnerAnswer}
 use Rattle.plan.specs.Ask.{owner-answer}
 use Rattle.plan.specs.Meets.{empty-plan}
-use Rattle.history.specs.Ran.{NamesOwner}
+use Rattle.history.specs.Ran.{NamesOwner, TellsRest}
 
 -- (The lists of demand 3, 1, 3, 4) The calls of `entries` were made one after the other on one record, whose numbers were `first` before them and are `last` after them.
 -- Each was made on the numbers that the call before it left; by its contract a refused call leaves them as found.
@@ -28,4 +28,10 @@ Demand3OfRows = (entries : List Entry) (rows : List ℕ) → RanOnRows (empty-pl
 unfoldable pub OwnerOfRows : Type 0
 OwnerOfRows =
     (entries : List Entry) (rows : List ℕ) → RanOnRows (empty-plan .rows) entries rows →
-    (round : ℕ) (a : OwnerAnswer) → owner-answer a ≡ owner round (tree-of rows) → NamesOwner entries round a
+    (round : ℕ) (a : OwnerAnswer) → owner-answer a ≡ owner-or-rest round (tree-of rows) → NamesOwner entries round a
+
+-- (Ask 4, 4) and tells the rest where it is idle
+unfoldable pub RestOfRows : Type 0
+RestOfRows =
+    (entries : List Entry) (rows : List ℕ) → RanOnRows (empty-plan .rows) entries rows →
+    (round : ℕ) (a : OwnerAnswer) → owner-answer a ≡ owner-or-rest round (tree-of rows) → TellsRest entries round a

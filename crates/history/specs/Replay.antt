@@ -13,7 +13,7 @@ use Rattle.tree.specs.Demand3.{Demand3}
 use Rattle.tree.specs.Record.{treeOf}
 use Rattle.plan.specs.declared.ask.OwnerAnswer.{OwnerAnswer}
 use Rattle.plan.specs.Meets.{empty-plan, Meets}
-use Rattle.history.specs.Ran.{Ran, NamesOwner}
+use Rattle.history.specs.Ran.{Ran, NamesOwner, TellsRest}
 
 -- Three numbers to a call: kind, line and period, of any size. Kind 0 opens; every other kind closes, and its period is not looked at.
 unfoldable pub call-of : ℕ → ℕ → ℕ → Call
@@ -62,3 +62,4 @@ pub record ReplaysAndOwns (numbers before after : List ℕ) (round : ℕ) (a : O
   pub plan : Plan
   pub replays : Replays numbers before after count plan
   pub names-owner : NamesOwner (replays .first .entries) round a
+  pub tells-rest : TellsRest (replays .first .entries) round a

@@ -3,10 +3,10 @@
 use Prim.Native.Nat.{ℕ, _+_}
 use mathlib.Core.Path.{_≡_}
 use mathlib.Core.Bool.{true, false}
-use mathlib.Core.Option.{none, some}
 use borrow.Author.Tests.{ne-eqb}
 use Rattle.tree.specs.Tree.{Tree}
-use Rattle.tree.specs.Asking.{owner}
+use Rattle.tree.specs.Asking.{owned-by, idle-for, owner-or-rest}
+use Rattle.tree.proofs.Resting.{owned-exactly, idle-exactly}
 use Rattle.plan.specs.declared.walker.WalkerPlace.{WalkerPlace}
 use Rattle.plan.specs.declared.walker.WalkAnswer.the-variants.{Line, Idle, Refused}
 use Rattle.plan.specs.Walker.{at-end, walk-outcome, count-after, moved-on, place-after, walk-answer, WalkedOn}
@@ -29,10 +29,10 @@ module _ (place : WalkerPlace) (t : Tree) where
     unfolding at-end
     not-at-end = rw (ne-eqb _ _ room, ne-eqb _ _ countable)
 
-    pub walk-idle : owner (place .next) t ≡ none → WalkedOn place t Idle (record { next = place .next + 1; owned = place .owned })
+    pub walk-idle : (g : ℕ) → owner-or-rest (place .next) t ≡ idle-for g → WalkedOn place t (Idle g) (record { next = place .next + 1; owned = place .owned })
     unfolding walk-answer walk-outcome place-after moved-on count-after
-    walk-idle idle = record { answer-is = rw (not-at-end, idle); place-is = rw (not-at-end, idle) }
+    walk-idle g idle = record { answer-is = rw (not-at-end, idle); place-is = rw (not-at-end, idle-exactly (place .next) t g .0 idle .0) }
 
-    pub walk-owned : (n : ℕ) → owner (place .next) t ≡ some n → WalkedOn place t (Line n) (record { next = place .next + 1; owned = place .owned + 1 })
+    pub walk-owned : (n : ℕ) → owner-or-rest (place .next) t ≡ owned-by n → WalkedOn place t (Line n) (record { next = place .next + 1; owned = place .owned + 1 })
     unfolding walk-answer walk-outcome place-after moved-on count-after
-    walk-owned n owned = record { answer-is = rw (not-at-end, owned); place-is = rw (not-at-end, owned) }
+    walk-owned n owned = record { answer-is = rw (not-at-end, owned); place-is = rw (not-at-end, owned-exactly (place .next) t n .0 owned) }

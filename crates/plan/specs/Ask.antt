@@ -3,10 +3,9 @@
 use Prim.Native.Nat.{ℕ}
 use mathlib.Core.Path.{_≡_}
 use mathlib.Core.List.{List, []}
-use mathlib.Core.Option.{Option, none, some}
 use Rattle.tree.specs.declared.Row.{Row}
 use Rattle.tree.specs.Tree.{Tree}
-use Rattle.tree.specs.Asking.{Shown, rows-11}
+use Rattle.tree.specs.Asking.{OwnerOrRest, owned-by, idle-for, Shown, rows-11}
 use Rattle.tree.specs.Calls.{Outcome, gives, refuses, show-outcome}
 use Rattle.plan.specs.declared.ask.OwnerAnswer.{OwnerAnswer}
 use Rattle.plan.specs.declared.ask.OwnerAnswer.the-variants.{Line, Idle}
@@ -16,10 +15,10 @@ use Rattle.plan.specs.declared.ask.Showing.{Showing}
 use Rattle.plan.specs.declared.ask.TurnsAnswer.{TurnsAnswer}
 use Rattle.plan.specs.declared.ask.TurnsAnswer.the-variants.{Count, Refused as TurnsRefused}
 
--- the line that owns the round, none where it is idle
-unfoldable pub owner-answer : OwnerAnswer → Option ℕ
-owner-answer (Line n) = some n
-owner-answer Idle = none
+-- the line that owns the round, or the rest where it is idle
+unfoldable pub owner-answer : OwnerAnswer → OwnerOrRest
+owner-answer (Line n) = owned-by n
+owner-answer (Idle g) = idle-for g
 
 -- what show answered, with the rows beside it
 unfoldable pub show-answer : ShowAnswer → List Row → Outcome Shown

@@ -1,4 +1,4 @@
--- The walker (document 01, The walker): what a call on a place answers, and where it leaves the place.
+-- The walker (document 01, The walker; the rest by document 02, Ask 4): what a call on a place answers, and where it leaves the place.
 -- Assumes nothing.
 use Prim.Native.Nat.{ℕ, _+_}
 use mathlib.Core.Path.{_≡_}
@@ -7,7 +7,7 @@ use mathlib.Core.Option.{Option, none, some}
 use lib.Dec.{eqb}
 use Rattle.tree.specs.Search.{if_then_else_}
 use Rattle.tree.specs.Tree.{Tree}
-use Rattle.tree.specs.Asking.{owner}
+use Rattle.tree.specs.Asking.{owner, OwnerOrRest, owned-by, idle-for, owner-or-rest}
 use Rattle.tree.specs.Calls.{Outcome, gives, refuses}
 use Rattle.plan.specs.declared.walker.WalkerPlace.{WalkerPlace}
 use Rattle.plan.specs.declared.walker.WalkAnswer.{WalkAnswer}
@@ -17,9 +17,9 @@ use Rattle.plan.specs.declared.walker.WalkAnswer.the-variants.{Line, Idl
 unfoldable pub at-end : WalkerPlace → Bool
 at-end place = eqb (place .next) 18446744073709551615 || eqb (place .owned) 18446744073709551615
 
--- (The walker, 2) The call answers the owner of the next round.
-unfoldable pub walk-outcome : WalkerPlace → Tree → Outcome (Option ℕ)
-walk-outcome place t = if at-end place then refuses 9 else gives (owner (place .next) t)
+-- (The walker, 2; Ask 4, 4) The call answers the owner of the next round, or its rest.
+unfoldable pub walk-outcome : WalkerPlace → Tree → Outcome OwnerOrRest
+walk-outcome place t = if at-end place then refuses 9 else gives (owner-or-rest (place .next) t)
 
 -- (The walker, 2) 1 more if the round was owned
 unfoldable pub count-after : Option ℕ → ℕ → ℕ
@@ -34,9 +34,9 @@ unfoldable pub place-after : WalkerPlace → Tree → WalkerPlace
 place-after place t = if at-end place then place else moved-on place t
 
 -- what the call answered
-unfoldable pub walk-answer : WalkAnswer → Outcome (Option ℕ)
-walk-answer (Line n) = gives (some n)
-walk-answer Idle = gives none
+unfoldable pub walk-answer : WalkAnswer → Outcome OwnerOrRest
+walk-answer (Line n) = gives (owned-by n)
+walk-answer (Idle g) = gives (idle-for g)
 walk-answer (Refused n) = refuses n
 
 -- a call on a place gave this answer and left this place: both are those of the rules

@@ -1,7 +1,7 @@
 // The calls that ask a plan: owner, show and turns, each on a record that is lent and with a plan by value. A record that
 // is no tree is answered as the empty plan.
 ghost use mathlib.Core.Path.{_≡_};
-ghost use Rattle.tree.specs.Asking.{owner};
+ghost use Rattle.tree.specs.Asking.{owner-or-rest};
 ghost use Rattle.tree.specs.Calls.{turns-outcome};
 ghost use Rattle.tree.specs.Record.{treeOf};
 ghost use Rattle.bridge.specs.Rows.{tree-of};
@@ -14,10 +14,11 @@ use tree::Plan;
 use tree::Row;
 use tree::Start;
 
-// The owner of a round: a line by its number, or none.
+// The owner of a round: a line by its number or, where there is none, how many rounds lie from the round to the next
+// owned one. Only in the empty plan these are 0.
 pub enum OwnerAnswer {
     Line(u64),
-    Idle,
+    Idle(u16),
 }
 
 // A line's period and start, or the number with which the call is refused.
@@ -38,16 +39,17 @@ pub enum TurnsAnswer {
     Refused(u8),
 }
 
-// The owner of a round by a record that is lent. It never refuses.
+// The owner of a round, or its rest, by a record that is lent. It never refuses. The next owned round may be past 2^64.
 pub fn owner_rows(rows: &[u16; 1408], round: u64) -> OwnerAnswer
-    ensures { λ r. ⌜ owner-answer r ≡ owner round (tree-of (now (rows .entry))) ⌝ }
+    ensures { λ r. ⌜ owner-answer r ≡ owner-or-rest round (tree-of (now (rows .entry))) ⌝ }
 {
     if !paths::legal(rows) {
-        return OwnerAnswer::Idle;
+        return OwnerAnswer::Idle(0);
     }
     let found = asking::owner_of(rows, round);
     let Owner::Line(line) = found else {
-        return OwnerAnswer::Idle;
+        let rest = asking::rest::rest_of(rows, round);
+        return OwnerAnswer::Idle(rest);
     };
     let number = line as u64;
     OwnerAnswer::Line(number)
@@ -55,7 +57,7 @@ pub fn owner_rows(rows: &[u16; 1408], round: u64) -> OwnerAnswer
 
 // The same with a plan by value.
 pub fn owner(plan: Plan, round: u64) -> OwnerAnswer
-    ensures { λ r. ⌜ owner-answer r ≡ owner round (treeOf plan) ⌝ }
+    ensures { λ r. ⌜ owner-answer r ≡ owner-or-rest round (treeOf plan) ⌝ }
 {
     owner_rows(&plan.rows, round)
 }

@@ -1,4 +1,4 @@
-// The walker: the owners of successive rounds, one for each call.
+// The walker: the owners of successive rounds, one for each call, and the rest of each that is idle.
 ghost use Rattle.tree.specs.Record.{treeOf};
 ghost use Rattle.bridge.specs.Rows.{tree-of};
 ghost use Rattle.plan.specs.Walker.{WalkedOn};
@@ -12,10 +12,10 @@ pub struct WalkerPlace {
     pub owned: u64,
 }
 
-// The owner of the next round, or the number with which the call is refused.
+// The owner of the next round, or its rest where it is idle, or the number with which the call is refused.
 pub enum WalkAnswer {
     Line(u64),
-    Idle,
+    Idle(u16),
     Refused(u8),
 }
 
@@ -43,17 +43,21 @@ pub fn walk_rows(rows: &[u16; 1408], place: WalkerPlace) -> Walked
     let next = place.next + 1;
     let one_more = place.owned + 1;
     let owner = ask::owner_rows(rows, place.next);
-    let OwnerAnswer::Line(line) = owner else {
-        let owned = place.owned;
-        return Walked {
-            answer: WalkAnswer::Idle,
-            place: WalkerPlace { next, owned },
-        };
-    };
-    let owned = one_more;
-    Walked {
-        answer: WalkAnswer::Line(line),
-        place: WalkerPlace { next, owned },
+    match owner {
+        OwnerAnswer::Line(line) => {
+            let owned = one_more;
+            Walked {
+                answer: WalkAnswer::Line(line),
+                place: WalkerPlace { next, owned },
+            }
+        }
+        OwnerAnswer::Idle(rest) => {
+            let owned = place.owned;
+            Walked {
+                answer: WalkAnswer::Idle(rest),
+                place: WalkerPlace { next, owned },
+            }
+        }
     }
 }
 

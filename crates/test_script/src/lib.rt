@@ -59,13 +59,19 @@ pub fn write_number(current: Plan, place: u64, number: u64) -> Plan {
     damaged
 }
 
+// That a round is idle, and its rest.
+pub fn idle(rest: u16) {
+    text(b"idle ");
+    decimal(rest as u64);
+}
+
 pub fn run_owner(current: Plan, round: u64) {
     text(b"owner ");
     decimal(round);
     text(b" ");
     match plan::ask::owner(current, round) {
         OwnerAnswer::Line(line) => decimal(line),
-        OwnerAnswer::Idle => text(b"idle"),
+        OwnerAnswer::Idle(rest) => idle(rest),
     }
     text(b"\n");
 }

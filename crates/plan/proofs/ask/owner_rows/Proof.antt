@@ -1,8 +1,13 @@
 -- `plan::ask::owner_rows` meets its contract: one law for each way that it can go.
 -- Assumes nothing.
-use mathlib.Core.Path.{sym, _∙_, ap}
+use mathlib.Core.Path.{_≡_, sym, _∙_, ap}
+use mathlib.Core.Bool.{true}
 use borrow.Author.Needs.{needs}
 use borrow.Author.Tests.{not-true, not-false}
+use denote.Ref.{now}
+use Rattle.tree.specs.Asking.{idle-for}
+use Rattle.tree.specs.Record.{legal}
+use Rattle.tree.proofs.Resting.{answer-owned, answer-idle}
 use Rattle.bridge.proofs.AskingRecords.{owner-on-illegal, owner-on-record}
 use Rattle.asking.specs.Answers.{owner-answered}
 use Rattle.plan.specs.Ask.{owner-answer}
@@ -16,6 +21,10 @@ returns : tie.Need-returns
 unfolding owner-answer
 returns c = sym (owner-on-illegal _ (sym (c .before .legal .ensures) ∙ not-true _ (c .if1 .taken)) _)
 
+-- the walk is made in a record that is a tree
+is-tree : (c : tie.After-owner-of) → legal (now (c .before .before .before .args .rows)) ≡ true
+is-tree c = sym (c .before .before .legal .ensures) ∙ not-false _ (c .before .if1 .left)
+
 owner-of-requires : tie.Need-owner-of-requires
 owner-of-requires c κs = sym (c .before .legal .ensures) ∙ not-false _ (c .if1 .left)
 
@@ -25,19 +34,22 @@ enum-known-found c = search needs
 enum-told : tie.Need-enum-told
 enum-told c = search needs
 
+rest-of-requires : tie.Need-rest-of-requires
+rest-of-requires c κs = is-tree (c .before .before)
+
 returns-2 : tie.Need-returns-2
 unfolding owner-answer
 returns-2 c =
-    let after-walk = c .before .before in
-    let is-tree = after-walk .before in
-    sym (sym (after-walk .owner-of .ensures ∙ owner-on-record _ (sym (is-tree .before .legal .ensures) ∙ not-false _ (is-tree .if1 .left)) _) ∙ ap owner-answered (c .enum-told .given .1))
+    let walked = c .before .before .before in
+    let idle = sym (walked .owner-of .ensures ∙ owner-on-record _ (is-tree walked) _) ∙ ap owner-answered (c .before .enum-told .given .1) in
+    sym (answer-idle _ _ idle ∙ ap idle-for (sym (c .rest-of .ensures)))
 
 returns-3 : tie.Need-returns-3
 unfolding owner-answer
 returns-3 c =
-    let after-walk = c .before .before .before in
-    let is-tree = after-walk .before in
-    sym (sym (after-walk .owner-of .ensures ∙ owner-on-record _ (sym (is-tree .before .legal .ensures) ∙ not-false _ (is-tree .if1 .left)) _) ∙ ap owner-answered (c .before .found .given .1))
+    let walked = c .before .before .before in
+    let line = sym (walked .owner-of .ensures ∙ owner-on-record _ (is-tree walked) _) ∙ ap owner-answered (c .before .found .given .1) in
+    sym (answer-owned _ _ _ line)
 
 pub owner-rows-spec : {M : Type 1} → statement M
 owner-rows-spec =
@@ -48,5 +60,6 @@ owner-rows-spec =
     owner-of-requires
     enum-known-found
     enum-told
+    rest-of-requires
     returns-2
     returns-3)

@@ -25,22 +25,22 @@ owner-rows-requires c κs = search needs
 enum-known-owner : tie.Need-enum-known-owner
 enum-known-owner c = search needs
 
-enum-told : tie.Need-enum-told
-enum-told c = search needs
+enum-known-owner-2 : tie.Need-enum-known-owner-2
+enum-known-owner-2 c = search needs
 
 returns-3 : tie.Need-returns-3
 unfolding owner-answer
 returns-3 c =
-    let after-owner = c .before .before in
-    let room = after-owner .before .before .before in
-    walk-idle _ _ (room .before .before .if1 .left) (room .if2 .left) (sym (after-owner .owner-rows .ensures) ∙ ap owner-answer (c .enum-told .given .1))
+    let asked = c .before .before .before in
+    let room = asked .before .before .before in
+    walk-owned _ _ (room .before .before .if1 .left) (room .if2 .left) _ (sym (asked .owner-rows .ensures) ∙ ap owner-answer (c .before .owner .given .1))
 
 returns-4 : tie.Need-returns-4
 unfolding owner-answer
 returns-4 c =
-    let after-owner = c .before .before .before in
-    let room = after-owner .before .before .before in
-    walk-owned _ _ (room .before .before .if1 .left) (room .if2 .left) _ (sym (after-owner .owner-rows .ensures) ∙ ap owner-answer (c .before .owner .given .1))
+    let asked = c .before .before .before in
+    let room = asked .before .before .before in
+    walk-idle _ _ (room .before .before .if1 .left) (room .if2 .left) _ (sym (asked .owner-rows .ensures) ∙ ap owner-answer (c .before .owner2 .given .1))
 
 pub walk-rows-spec : {M : Type 1} → statement M
 walk-rows-spec =
@@ -52,6 +52,6 @@ walk-rows-spec =
     add-one-more
     owner-rows-requires
     enum-known-owner
-    enum-told
+    enum-known-owner-2
     returns-3
     returns-4)
