@@ -31,8 +31,8 @@ static void tell(uint64_t line, uint64_t period, int start, int added, int split
 
 static void ask(uint64_t round, int64_t expected) {
     int64_t owner = gaplinte_owner(&plan, round);
-    if (owner == GAPLINTE_IDLE)
-        printf("round %" PRIu64 ": idle\n", round);
+    if (gaplinte_is_idle(owner))
+        printf("round %" PRIu64 ": idle, the next owned round is %u later\n", round, gaplinte_rest(owner));
     else
         printf("round %" PRIu64 ": line %" PRId64 "\n", round, owner);
     if (owner != expected) differences++;
@@ -47,7 +47,7 @@ int main(void) {
     tell(4, 12, 3, 1, 0);
     book(4, 12, 3);
     ask(7, 2);
-    ask(9, GAPLINTE_IDLE);
+    ask(9, GAPLINTE_IDLE_FROM + 1);
     ask(10, 3);
     return differences == 0 ? 0 : 1;
 }

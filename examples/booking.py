@@ -31,7 +31,10 @@ def tell(plan, line, period):
 def ask(plan, round):
     """Gives the owner of a round."""
     owner = plan.owner(round)
-    print(f"round {round}: idle" if owner is None else f"round {round}: line {owner}")
+    if owner.line is None:
+        print(f"round {round}: idle, the next owned round is {owner.rest} later")
+    else:
+        print(f"round {round}: line {owner.line}")
     return owner
 
 
@@ -48,7 +51,7 @@ def main():
     ]
     owners = [ask(plan, round) for round in (7, 9, 10)]
     expected = [0, (1, 2, True), 1, 2, "refused with 5", (3, 1, False), 3]
-    return 0 if answers == expected and owners == [2, None, 3] else 1
+    return 0 if answers == expected and owners == [(2, None), (None, 1), (3, None)] else 1
 
 
 if __name__ == "__main__":

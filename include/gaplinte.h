@@ -9,9 +9,9 @@
  * empty plan: `gaplinte_plan plan = {0};` in C, `gaplinte_plan plan{};` in C++. The numbers are in the machine's byte
  * order, so a stored plan is for machines of one byte order.
  *
- * A plan that is no tree (damaged, say, or never written) is treated by each call as the empty plan: owner answers
- * idle, show, turns and close refuse with 4, a trial tells what an open in the empty plan would do, and an open that is
- * not refused replaces it. gaplinte_is_tree tells.
+ * A plan that is no tree (damaged, say, or never written) is treated by each call as the empty plan: owner and the
+ * walker answer idle with rest 0, show, turns and close refuse with 4, a trial tells what an open in the empty plan
+ * would do, and an open that is not refused replaces it. gaplinte_is_tree tells.
  *
  * Threads. The library keeps nothing between calls and has no global data, so calls on different records may run in
  * different threads. While one thread changes a record, no other may use it.
@@ -28,8 +28,10 @@
 
 /* Lines are 0 to 63. */
 #define GAPLINTE_LINES 64
-/* Where a round has no owner, this stands for the line. */
-#define GAPLINTE_IDLE 64
+/* A value of owner or of the walker from this on says that the round is idle, and is this and the rest. */
+#define GAPLINTE_IDLE_FROM 64
+/* The longest rest; that of an empty plan is 0, and any other is 1 or more. */
+#define GAPLINTE_LONGEST_REST 4094
 /* The longest period; the shortest is 1. */
 #define GAPLINTE_LONGEST_PERIOD 4095
 /* The rows of a path, used or not. */
@@ -154,6 +156,16 @@ static inline const char *gaplinte_refusal_text(int64_t answer) {
     }
 }
 
+/* Whether a value of owner or of the walker says that the round is idle. Not where it is a line or a refusal. */
+static inline int gaplinte_is_idle(int64_t owner) {
+    return owner >= GAPLINTE_IDLE_FROM;
+}
+
+/* The rest that a value of owner or of the walker has, or 0 where it does not say that the round is idle. */
+static inline unsigned gaplinte_rest(int64_t owner) {
+    return gaplinte_is_idle(owner) ? (unsigned)(owner - GAPLINTE_IDLE_FROM) : 0;
+}
+
 /* Opens a line with a period of 1 to 4,095 rounds. The value is its start. Refused with 1, 2, 3 or 5. */
 GAPLINTE_NODISCARD int64_t gaplinte_open(gaplinte_plan *plan, uint64_t line, uint64_t period);
 
@@ -165,7 +177,10 @@ GAPLINTE_NODISCARD int64_t gaplinte_trial(const gaplinte_plan *plan, uint64_t li
 /* Closes a line. The value is 0. Refused with 1 or 4. */
 GAPLINTE_NODISCARD int64_t gaplinte_close(gaplinte_plan *plan, uint64_t line);
 
-/* The owner of a round. The value is a line, or GAPLINTE_IDLE. Never refused. */
+/* The owner of a round. The value is a line or, where the round is idle, GAPLINTE_IDLE_FROM and the rest: how many
+ * rounds lie from this one to the next owned one, 1 to GAPLINTE_LONGEST_REST, and 0 for an empty plan only. The value
+ * can be 4,158, for which an int8_t is too narrow. Rounds are whole numbers: the next owned one can be past 2^64 - 1,
+ * and then no uint64_t holds round + rest. Never refused. */
 GAPLINTE_NODISCARD int64_t gaplinte_owner(const gaplinte_plan *plan, uint64_t round);
 
 /* Shows a line: its period, start and path are written. The value is 0. Refused with 1 or 4. */
@@ -176,8 +191,9 @@ GAPLINTE_NODISCARD int64_t gaplinte_show(const gaplinte_plan *plan, uint64_t lin
  * no uint64_t holds them. 0 rounds give 0. Refused with 1 or 4. */
 GAPLINTE_NODISCARD int64_t gaplinte_turns(const gaplinte_plan *plan, uint64_t line, uint64_t first, uint32_t rounds);
 
-/* The walker. The value is the owner of the next round, a line or GAPLINTE_IDLE; the place moves on by that round, and
- * its count by 1 where the round is owned. Refused with 9 where either number is 2^64 - 1. */
+/* The walker. The value is that of gaplinte_owner for the next round: a line, or GAPLINTE_IDLE_FROM and the rest. The
+ * place moves on by one round, and its count by 1 where the round is owned. Refused with 9 where either number is
+ * 2^64 - 1. */
 GAPLINTE_NODISCARD int64_t gaplinte_walk(const gaplinte_plan *plan, gaplinte_place *place);
 
 /* Runs a list of orders, 3 bytes each, and writes 2 bytes for each: 4 bits of result, 0 or the number with which the

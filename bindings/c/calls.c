@@ -34,9 +34,10 @@ static void open_and_close(void) {
     EXPECT(gaplinte_close(&plan, UINT64_MAX), -GAPLINTE_LINE_ABOVE_63);
 }
 
+/* Line 3 is closed, so that round 12 is the first owned one after round 8. */
 static void ask(void) {
     EXPECT(gaplinte_owner(&plan, 7), 2);
-    EXPECT(gaplinte_owner(&plan, 10), GAPLINTE_IDLE);
+    EXPECT(gaplinte_owner(&plan, 10), GAPLINTE_IDLE_FROM + 2);
     EXPECT(gaplinte_owner(&plan, UINT64_MAX), 4);
 }
 
@@ -87,7 +88,7 @@ static void walk(void) {
     gaplinte_place place = {7, 0};
     EXPECT(gaplinte_walk(&plan, &place), 2);
     EXPECT(gaplinte_walk(&plan, &place), 1);
-    EXPECT(gaplinte_walk(&plan, &place), 64);
+    EXPECT(gaplinte_walk(&plan, &place), 64 + 3);
     EXPECT((int64_t)place.next, 10);
     EXPECT((int64_t)place.owned, 2);
     place.next = UINT64_MAX;
@@ -174,6 +175,68 @@ static void trials_of_wide_numbers(void) {
     EXPECT_NOT_TRIED(5, UINT64_MAX, GAPLINTE_PERIOD_OUT_OF_RANGE);
 }
 
+/* The round is idle and has this rest, or is owned where 0 is expected. The walker gives what owner gives, moves on by
+ * the round and counts it where it is owned. */
+static void expect_rest(int at, uint64_t round, int rest) {
+    gaplinte_place place = {round, 70};
+    int64_t owner = gaplinte_owner(&plan, round);
+    expect(at, gaplinte_is_idle(owner), rest > 0);
+    expect(at, gaplinte_rest(owner), rest);
+    expect(at, gaplinte_walk(&plan, &place), owner);
+    expect(at, (int64_t)(place.next - round), 1);
+    expect(at, (int64_t)place.owned, rest > 0 ? 70 : 71);
+}
+
+#define EXPECT_REST(round, rest) expect_rest(__LINE__, round, rest)
+
+/* Marked case A, as trials leaves it: of 24 rounds 5, 6, 9, 11, 14, 17, 21, 22 and 23 are idle, and the next owned ones
+ * are 7, 10, 12, 15, 18 and 24. 2^64 divided by 24 leaves 16, so that 2^64 - 2 leaves 14. */
+static void rests(void) {
+    const int expected[24] = {0, 0, 0, 0, 0, 2, 1, 0, 0, 1, 0, 1, 0, 0, 1, 0, 0, 1, 0, 0, 0, 3, 2, 1};
+    EXPECT(gaplinte_owner(&plan, 9), 65);
+    for (unsigned round = 0; round < 48; round++) EXPECT_REST(round, expected[round % 24]);
+    for (unsigned back = 0; back < 24; back++) EXPECT_REST(UINT64_MAX - 1 - back, expected[(38 - back) % 24]);
+}
+
+/* 2^12 divided by 4,095 leaves 1, so 2^64 leaves 16: the line owns 2^64 - 16, and then 2^64 + 4079. */
+static void longest_rest(void) {
+    memset(&plan, 0, sizeof plan);
+    EXPECT(gaplinte_open(&plan, 1, GAPLINTE_LONGEST_PERIOD), 0);
+    EXPECT_REST(0, 0);
+    EXPECT_REST(1, GAPLINTE_LONGEST_REST);
+    EXPECT_REST(4094, 1);
+    EXPECT_REST(4095, 0);
+    EXPECT_REST(UINT64_MAX - 15, 0);
+    EXPECT_REST(UINT64_MAX - 14, 4094);
+    EXPECT_REST(UINT64_MAX - 1, 4081);
+    EXPECT(gaplinte_owner(&plan, 1), 4158);
+    EXPECT(gaplinte_owner(&plan, UINT64_MAX), 64 + 4080);
+}
+
+/* The one plan whose rest is 0. */
+static void rest_of_the_empty_plan(void) {
+    gaplinte_place place = {7, 70};
+    memset(&plan, 0, sizeof plan);
+    EXPECT(gaplinte_owner(&plan, 0), GAPLINTE_IDLE_FROM);
+    EXPECT(gaplinte_owner(&plan, UINT64_MAX), GAPLINTE_IDLE_FROM);
+    EXPECT(gaplinte_walk(&plan, &place), GAPLINTE_IDLE_FROM);
+    EXPECT((int64_t)place.next, 8);
+    EXPECT((int64_t)place.owned, 70);
+}
+
+/* Lines and refusals are not idle and have no rest. */
+static void rests_in_values(void) {
+    const int64_t not_idle[] = {0, 1, 63, -1, -9, INT64_MIN};
+    for (size_t which = 0; which < sizeof not_idle / sizeof *not_idle; which++) {
+        EXPECT(gaplinte_is_idle(not_idle[which]), 0);
+        EXPECT(gaplinte_rest(not_idle[which]), 0);
+    }
+    for (int rest = 0; rest <= GAPLINTE_LONGEST_REST; rest++) {
+        EXPECT(gaplinte_is_idle(64 + rest), 1);
+        EXPECT(gaplinte_rest(64 + rest), rest);
+    }
+}
+
 /* 63 lines of period 128 under one node. The 64 splits it: its weight becomes 64, and 63 edges lead to a new node of
  * weight 2. The 192 does that too, and adds a node of weight 3 above itself. For the 32 no class is free. */
 static void trials_in_a_full_plan(void) {
@@ -205,7 +268,7 @@ static void list(void) {
     EXPECT(gaplinte_run_list(&plan, orders, sizeof orders, answers, sizeof answers), 0);
     EXPECT_SAME(answers, expected);
     EXPECT(gaplinte_owner(&plan, 6), 1);
-    EXPECT(gaplinte_owner(&plan, 1), GAPLINTE_IDLE);
+    EXPECT(gaplinte_owner(&plan, 1), GAPLINTE_IDLE_FROM + 5);
 }
 
 static void order(void) {
@@ -285,6 +348,7 @@ static void texts(void) {
 static void damaged(void) {
     gaplinte_plan empty, booked, found;
     gaplinte_shown shown;
+    gaplinte_place place = {1, 0};
     memset(&empty, 0, sizeof empty);
     booked = empty;
     EXPECT(gaplinte_is_tree(&empty), 1);
@@ -294,8 +358,10 @@ static void damaged(void) {
     found.paths[3][0].edge = 12;
     plan = found;
     EXPECT(gaplinte_is_tree(&plan), 0);
-    EXPECT(gaplinte_owner(&plan, 0), GAPLINTE_IDLE);
-    EXPECT(gaplinte_owner(&plan, 12), GAPLINTE_IDLE);
+    EXPECT(gaplinte_owner(&plan, 0), GAPLINTE_IDLE_FROM);
+    EXPECT(gaplinte_owner(&plan, 1), GAPLINTE_IDLE_FROM);
+    EXPECT(gaplinte_owner(&plan, UINT64_MAX), GAPLINTE_IDLE_FROM);
+    EXPECT(gaplinte_walk(&plan, &place), GAPLINTE_IDLE_FROM);
     EXPECT(gaplinte_show(&plan, 3, &shown), -GAPLINTE_LINE_NOT_OPEN);
     EXPECT(gaplinte_turns(&plan, 3, 0, 7), -GAPLINTE_LINE_NOT_OPEN);
     EXPECT(gaplinte_close(&plan, 3), -GAPLINTE_LINE_NOT_OPEN);
@@ -319,6 +385,10 @@ int main(void) {
     trials();
     refused_trials();
     trials_of_wide_numbers();
+    rests();
+    longest_rest();
+    rest_of_the_empty_plan();
+    rests_in_values();
     trials_in_a_full_plan();
     list();
     order();

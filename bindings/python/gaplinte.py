@@ -4,7 +4,9 @@
 >>> plan.open(4, 12)
 0
 >>> plan.owner(24)
-4
+Owner(line=4, rest=None)
+>>> plan.owner(25)
+Owner(line=None, rest=11)
 >>> plan.open(4, 12)
 Traceback (most recent call last):
     ...
@@ -36,7 +38,7 @@ KIND_CLOSE = 1
 
 _LINES = 64
 _ROWS = 11
-_IDLE = 64
+_IDLE_FROM = 64
 _ORDER_BYTES = 3
 
 # In the words of include/gaplinte.h.
@@ -78,6 +80,16 @@ class Trial(NamedTuple):
     start: int
     added: int
     split: bool
+
+
+class Owner(NamedTuple):
+    """To whom a round belongs: line is None where it is idle, rest is None where a line owns it.
+
+    The rest is how many rounds lie from the round to the next owned one: 1 to 4,094, and 0 for an empty plan only.
+    """
+
+    line: int | None
+    rest: int | None
 
 
 class Shown(NamedTuple):
@@ -192,8 +204,9 @@ def _value(answer: int) -> int:
     return answer
 
 
-def _line_or_none(value: int) -> int | None:
-    return None if value == _IDLE else value
+def _owner(value: int) -> Owner:
+    """What a value of owner or of the walker tells."""
+    return Owner(value, None) if value < _IDLE_FROM else Owner(None, value - _IDLE_FROM)
 
 
 class Plan:
@@ -240,9 +253,9 @@ class Plan:
         """Closes a line. Refused with 1 or 4."""
         _value(_library.gaplinte_close(self._record, _number(line)))
 
-    def owner(self, round: int) -> int | None:
-        """The line to which a round belongs, None where it is idle."""
-        return _line_or_none(_value(_library.gaplinte_owner(self._record, _number(round))))
+    def owner(self, round: int) -> Owner:
+        """The owner of a round: its line or, where it is idle, the rest. round + rest can be 2**64 and more."""
+        return _owner(_value(_library.gaplinte_owner(self._record, _number(round))))
 
     def show(self, line: int) -> Shown:
         """A line's period, start and path. Refused with 1 or 4."""
@@ -294,12 +307,12 @@ class Walker:
         self.next = _number(next)
         self.owned = _number(owned)
 
-    def walk(self, plan: Plan) -> int | None:
-        """The owner of the next round, None where it is idle; the walker moves on. Refused with 9."""
+    def walk(self, plan: Plan) -> Owner:
+        """The owner of the next round, as Plan.owner gives it; the walker moves on by one round. Refused with 9."""
         place = _PlaceRecord(_number(self.next), _number(self.owned))
-        line = _line_or_none(_value(_library.gaplinte_walk(plan._record, place)))
+        owner = _owner(_value(_library.gaplinte_walk(plan._record, place)))
         self.next, self.owned = place.next, place.owned
-        return line
+        return owner
 
 
 def pack(kind: int, line: int, period: int = 0) -> bytes:

@@ -14,7 +14,7 @@ import threading
 import unittest
 
 import gaplinte
-from gaplinte import KIND_CLOSE, KIND_OPEN, Answer, Call, OpenLine, Plan, Refused, Row, Trial, Walker
+from gaplinte import KIND_CLOSE, KIND_OPEN, Answer, Call, OpenLine, Owner, Plan, Refused, Row, Trial, Walker
 
 FOLDER = pathlib.Path(__file__).resolve().parent
 REPOSITORY = FOLDER.parents[1]
@@ -48,7 +48,7 @@ class Case(unittest.TestCase):
 class MarkedCases(Case):
     def test_a(self):
         plan = self.opened("4@0", "6@1", "8@2", "2!5", "12@3")
-        self.assertEqual([plan.owner(round) for round in (7, 10, 9)], [2, 3, None])
+        self.assertEqual([plan.owner(round) for round in (7, 10, 9)], [(2, None), (3, None), (None, 1)])
         shown = plan.show(5)
         self.assertEqual((shown.period, shown.start), (12, 3))
         self.assertEqual(shown.path, ((2, 1), (3, 1), (2, 0)) + ((0, 0),) * 8)
@@ -158,7 +158,7 @@ class Numbers(Case):
 
     def test_the_largest(self):
         plan = self.opened("1@0")
-        self.assertEqual(plan.owner(LAST), 1)
+        self.assertEqual(plan.owner(LAST), (1, None))
         self.assertEqual(plan.turns(1, LAST, 2**32 - 1), 2**32 - 1)
 
     def test_whole_numbers_only(self):
@@ -199,7 +199,8 @@ class Records(Case):
         numbers[22 * 3 + 1] = 12
         plan = Plan.from_bytes(numbers)
         self.assertFalse(plan.is_tree())
-        self.assertIsNone(plan.owner(0))
+        self.assertEqual([plan.owner(round) for round in (0, 1, LAST)], [(None, 0)] * 3)
+        self.assertEqual(Walker().walk(plan), (None, 0))
         self.assertEqual(plan.lines(), [])
         for call in (plan.show, plan.close, lambda line: plan.turns(line, 0, 7)):
             self.refused(4, call, 3)
@@ -301,6 +302,58 @@ class Turns(Case):
                     self.assertEqual(plan.turns(line, first, rounds), owned)
 
 
+class Rests(Case):
+    def walked(self, plan, round):
+        """The owner of a round, which a walker hands on."""
+        owner, walker = plan.owner(round), Walker(round, 70)
+        self.assertEqual(walker.walk(plan), owner)
+        self.assertEqual((walker.next, walker.owned), (round + 1, 70 if owner.line is None else 71))
+        return owner
+
+    def test_case_a(self):
+        plan = self.opened("4@0", "6@1", "8@2", "12@3")
+        # Of 24 rounds; 0 where one is owned. The next owned ones are 7, 10, 12, 15, 18 and 24.
+        rests = [0, 0, 0, 0, 0, 2, 1, 0, 0, 1, 0, 1, 0, 0, 1, 0, 0, 1, 0, 0, 0, 3, 2, 1]
+        self.assertEqual(plan.owner(9), Owner(line=None, rest=1))
+        # 2**64 divided by 24 leaves 16, so that the last round asked, 2**64 - 2, leaves 14.
+        for round in (*range(48), *range(LAST - 24, LAST)):
+            self.assertEqual(self.walked(plan, round).rest, rests[round % 24] or None)
+
+    def test_the_empty_plan(self):
+        emptied = self.opened("4@0")
+        emptied.close(1)
+        for plan in (Plan(), emptied):
+            self.assertEqual([plan.owner(round) for round in (0, 1, LAST)], [Owner(line=None, rest=0)] * 3)
+            self.assertEqual(self.walked(plan, 1), (None, 0))
+
+    def test_the_longest(self):
+        plan = self.opened("4095@0")
+        rounds = (0, 1, 4094, 4095)
+        self.assertEqual([self.walked(plan, round).rest for round in rounds], [None, 4094, 1, None])
+        # 2**12 divided by 4,095 leaves 1, so 2**64 leaves 16: the line owns 2**64 - 16, and then 2**64 + 4079.
+        rounds = (LAST - 15, LAST - 14, LAST - 1)
+        self.assertEqual([self.walked(plan, round).rest for round in rounds], [None, 4094, 4081])
+        self.assertEqual(plan.owner(LAST), (None, 4080))
+
+    def test_a_close_makes_rests_longer(self):
+        plan = self.opened("4@0", "6@1", "8@2", "12@3")
+        plan.close(3)
+        # Round 10 was line 3's, and 12 is the next owned one now.
+        self.assertEqual([plan.owner(round).rest for round in (8, 9, 10, 11, 12)], [None, 3, 2, 1, None])
+
+    def test_until_the_next_owned_round(self):
+        for periods in (("4@0",), ("6@0", "12@1", "12@7"), ("5@0", "35@1"), ("2@0", "1024@1")):
+            plan = self.opened(*periods)
+            owners = [plan.owner(round) for round in range(5000)]
+            owned = [round for round, owner in enumerate(owners) if owner.rest is None]
+            lines = plan.lines()
+            fitting = [round for round in range(5000) if any(round % it.period == it.start for it in lines)]
+            self.assertEqual(owned, fitting)
+            for before, after in zip(owned, owned[1:]):
+                rests = [owner.rest for owner in owners[before + 1 : after]]
+                self.assertEqual(rests, list(range(after - before - 1, 0, -1)))
+
+
 class Lists(Case):
     def test_opens_and_closes_are_told_apart(self):
         orders = [(KIND_OPEN, 1, 6), (KIND_CLOSE, 1), (KIND_CLOSE, 1), (KIND_OPEN, 1, 0)]
@@ -349,7 +402,7 @@ class Walks(Case):
         plan = self.opened("4@0")
         walker = Walker()
         for round in range(100):
-            self.assertEqual(walker.walk(plan), None if round % 4 else 1)
+            self.assertEqual(walker.walk(plan), (None, 4 - round % 4) if round % 4 else (1, None))
             self.assertEqual((walker.next, walker.owned), (round + 1, round // 4 + 1))
 
     def test_at_the_end(self):
@@ -359,7 +412,7 @@ class Walks(Case):
             self.refused(9, walker.walk, plan)
             self.assertEqual((walker.next, walker.owned), place)
         walker = Walker(next=LAST - 3, owned=LAST - 1)
-        self.assertEqual(walker.walk(plan), 1)
+        self.assertEqual(walker.walk(plan), (1, None))
         self.assertEqual((walker.next, walker.owned), (LAST - 2, LAST))
 
 

@@ -1,7 +1,7 @@
 //! Marked case A of document 01: periods 4, 6 and 8, then 2, which is refused with 5, then 12. The 6 and the 12 are tried
 //! first. Prints what the library answers, and panics where that differs from documents 01 and 02.
 
-use gaplinte::{Line, Period, Plan, Refusal, Round, Start, Trial};
+use gaplinte::{Line, Owner, Period, Plan, Refusal, Round, Start, Trial};
 
 fn book(plan: &mut Plan, line: u64, period: u64, expected: Result<Start, Refusal>) {
     let answer = plan.open(Line(line), Period(period));
@@ -24,12 +24,9 @@ fn tell(plan: &Plan, line: u64, period: u64, expected: Trial) -> Result<(), Refu
     Ok(())
 }
 
-fn ask(plan: &Plan, round: u64, expected: Option<Line>) {
+fn ask(plan: &Plan, round: u64, expected: Owner) {
     let owner = plan.owner(Round(round));
-    match owner {
-        Some(line) => println!("round {round}: line {line}"),
-        None => println!("round {round}: idle"),
-    }
+    println!("round {round}: {owner}");
     assert_eq!(owner, expected);
 }
 
@@ -47,8 +44,8 @@ fn main() -> Result<(), Refusal> {
     book(&mut plan, 4, 2, Err(Refusal::NoCandidate));
     tell(&plan, 4, 12, trial(3, 1, false))?;
     book(&mut plan, 4, 12, Ok(Start(3)));
-    ask(&plan, 7, Some(Line(2)));
-    ask(&plan, 9, None);
-    ask(&plan, 10, Some(Line(3)));
+    ask(&plan, 7, Owner::Line(Line(2)));
+    ask(&plan, 9, Owner::Idle { rest: 1 });
+    ask(&plan, 10, Owner::Line(Line(3)));
     Ok(())
 }

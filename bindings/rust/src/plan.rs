@@ -3,7 +3,7 @@
 use crate::answers::answers_length;
 use crate::raw;
 use crate::refusal::outcome;
-use crate::{Answered, Answers, Line, Period, Refusal, Round, Start};
+use crate::{Answered, Answers, Line, Owner, Period, Refusal, Round, Start};
 use std::{array, fmt};
 
 /// A plan of rounds. [`Plan::new`] is the empty one.
@@ -55,11 +55,6 @@ pub struct OpenLine {
     pub period: Period,
     /// Its start.
     pub start: Start,
-}
-
-/// The line that a value of owner or of the walker stands for.
-pub(crate) fn line_or_idle(value: u64) -> Option<Line> {
-    (value != raw::IDLE as u64).then_some(Line(value))
 }
 
 impl Plan {
@@ -133,10 +128,10 @@ impl Plan {
         outcome(raw::close(&mut self.rows, line.0)).map(drop)
     }
 
-    /// The owner of a round, `None` where it is idle.
-    pub fn owner(&self, round: Round) -> Option<Line> {
+    /// The owner of a round: its line or, where it is idle, the rest.
+    pub fn owner(&self, round: Round) -> Owner {
         let value = outcome(raw::owner(&self.rows, round.0));
-        line_or_idle(value.expect("owner has no refusal"))
+        Owner::told(value.expect("owner has no refusal"))
     }
 
     /// Shows a line.

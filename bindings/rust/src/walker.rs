@@ -1,9 +1,8 @@
 //! The walker: the owners of successive rounds, one for each call.
 
-use crate::plan::line_or_idle;
 use crate::raw;
 use crate::refusal::outcome;
-use crate::{Line, Plan, Refusal, Round};
+use crate::{Owner, Plan, Refusal, Round};
 
 /// A walker's place. `Walker::default()` starts at round 0.
 #[derive(Clone, Copy, Debug, Default, PartialEq, Eq, Hash)]
@@ -15,16 +14,16 @@ pub struct Walker {
 }
 
 impl Walker {
-    /// The owner of the next round, `None` where it is idle. The place moves on.
+    /// The owner of the next round, as [`Plan::owner`] gives it. The place moves on by one round.
     ///
     /// # Errors
     ///
     /// [`Refusal::WalkerAtEnd`]. The place is then as found.
-    pub fn walk(&mut self, plan: &Plan) -> Result<Option<Line>, Refusal> {
+    pub fn walk(&mut self, plan: &Plan) -> Result<Owner, Refusal> {
         let mut place = [self.next.0, self.owned];
         let answer = raw::walk(plan.record(), &mut place);
         self.next = Round(place[0]);
         self.owned = place[1];
-        outcome(answer).map(line_or_idle)
+        outcome(answer).map(Owner::told)
     }
 }

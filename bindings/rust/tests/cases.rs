@@ -1,6 +1,8 @@
 //! The marked cases of document 01, through the bindings.
 
-use gaplinte::{Answered, Answers, Line, OpenLine, Period, Plan, Refusal, Round, Row, Start};
+use gaplinte::{
+    Answered, Answers, Line, OpenLine, Owner, Period, Plan, Refusal, Round, Row, Start,
+};
 
 /// Opens lines 1, 2, 3 .. in turn, each with a period, and compares what each open gives: a start, or a refusal. A
 /// refused open leaves the plan as found.
@@ -31,7 +33,7 @@ fn owners_fit(plan: &Plan) {
             .map(|&(line, _)| line)
             .collect();
         assert!(fitting.len() < 2, "round {round} fits two lines");
-        assert_eq!(plan.owner(Round(round)), fitting.first().copied());
+        assert_eq!(plan.owner(Round(round)).line(), fitting.first().copied());
     }
 }
 
@@ -52,9 +54,9 @@ fn case_a() {
         (2, Err(Refusal::NoCandidate)),
         (12, Ok(3)),
     ]);
-    assert_eq!(plan.owner(Round(7)), Some(Line(2)));
-    assert_eq!(plan.owner(Round(10)), Some(Line(3)));
-    assert_eq!(plan.owner(Round(9)), None);
+    assert_eq!(plan.owner(Round(7)), Owner::Line(Line(2)));
+    assert_eq!(plan.owner(Round(10)), Owner::Line(Line(3)));
+    assert_eq!(plan.owner(Round(9)), Owner::Idle { rest: 1 });
     let shown = plan.show(Line(5)).unwrap();
     assert_eq!((shown.period, shown.start), (Period(12), Start(3)));
     assert_eq!(shown.rows, path(&[(2, 1), (3, 1), (2, 0)]));

@@ -1,7 +1,7 @@
 //! A record that is no tree, through every call: it is treated as the empty plan, and a refused call leaves it as
 //! found.
 
-use gaplinte::{Answered, Line, Period, Plan, Refusal, Round, Start, Trial, Walker};
+use gaplinte::{Answered, Line, Owner, Period, Plan, Refusal, Round, Start, Trial, Walker};
 
 /// Records that are no tree: a number out of range, an edge not below its weight, a row after an unused one, two lines
 /// at one place, an edge without a weight, a line above another, every number alike.
@@ -35,7 +35,7 @@ fn asked() {
         assert_eq!(plan.lines().next(), None);
         assert_eq!(plan.to_string(), "no open lines: the record is no tree");
         for round in [0, 1, 12, u64::MAX] {
-            assert_eq!(plan.owner(Round(round)), None);
+            assert_eq!(plan.owner(Round(round)), Owner::Idle { rest: 0 });
         }
         for line in [0, 3, 5, 63].map(Line) {
             assert_eq!(plan.show(line), Err(Refusal::LineNotOpen));
@@ -46,7 +46,7 @@ fn asked() {
         }
         assert_eq!(plan.show(Line(64)), Err(Refusal::LineAbove63));
         let mut walker = Walker::default();
-        assert_eq!(walker.walk(&plan), Ok(None));
+        assert_eq!(walker.walk(&plan), Ok(Owner::Idle { rest: 0 }));
         assert_eq!((walker.next, walker.owned), (Round(1), 0));
     }
 }

@@ -30,7 +30,9 @@ fn values() {
     assert_eq!(raw::open(&mut rows, 6, 4), 1);
     assert_eq!(raw::owner(&rows, 4), 5);
     assert_eq!(raw::owner(&rows, u64::MAX - 2), 6);
-    assert_eq!(raw::owner(&rows, 6), raw::IDLE);
+    // The next owned rounds are 8 and 2^64.
+    assert_eq!(raw::owner(&rows, 6), raw::IDLE_FROM + 2);
+    assert_eq!(raw::owner(&rows, u64::MAX), 65);
     // Of the rounds 2 to 2^32 line 6 owns 5, 9 .. 2^32 - 3.
     assert_eq!(raw::turns(&rows, 6, 2, u32::MAX), (1 << 30) - 1);
     assert_eq!(raw::turns(&rows, 6, u64::MAX - 2, 1), 1);
@@ -42,10 +44,14 @@ fn values() {
     let mut place = [4, 7];
     assert_eq!(raw::walk(&rows, &mut place), 5);
     assert_eq!(place, [5, 8]);
+    let mut place = [6, 7];
+    assert_eq!(raw::walk(&rows, &mut place), raw::IDLE_FROM + 2);
+    assert_eq!(place, [7, 7]);
     assert_eq!(raw::close(&mut rows, 6), 0);
     assert_eq!(rows, one_line());
     assert_eq!(raw::close(&mut rows, 5), 0);
     assert_eq!(rows, [0; raw::PLAN_NUMBERS]);
+    assert_eq!(raw::owner(&rows, 6), raw::IDLE_FROM);
     assert_eq!(raw::is_tree(&rows), 1);
     assert_eq!(raw::is_tree(&[1; raw::PLAN_NUMBERS]), 0);
 }

@@ -1,6 +1,8 @@
 //! Each refusal, by each call that can give it. A refused call leaves plan, place and buffers as found.
 
-use gaplinte::{raw, Answered, Answers, Call, Line, Period, Plan, Refusal, Round, Start, Walker};
+use gaplinte::{
+    raw, Answered, Answers, Call, Line, Owner, Period, Plan, Refusal, Round, Start, Walker,
+};
 
 fn one_line() -> Plan {
     let mut plan = Plan::new();
@@ -259,7 +261,10 @@ fn walker() {
     let plan = one_line();
     let mut walker = Walker::default();
     for round in 0..100 {
-        let owner = (round % 4 == 0).then_some(Line(0));
+        let owner = match round % 4 {
+            0 => Owner::Line(Line(0)),
+            past => Owner::Idle { rest: 4 - past },
+        };
         assert_eq!(walker.walk(&plan), Ok(owner));
         assert_eq!(walker.next, Round(round + 1));
         assert_eq!(walker.owned, round / 4 + 1);
@@ -272,7 +277,7 @@ fn walker() {
     }
     let (next, owned) = (Round(u64::MAX - 3), u64::MAX - 1);
     let mut last = Walker { next, owned };
-    assert_eq!(last.walk(&plan), Ok(Some(Line(0))));
+    assert_eq!(last.walk(&plan), Ok(Owner::Line(Line(0))));
     assert_eq!((last.next, last.owned), (Round(u64::MAX - 2), u64::MAX));
     assert_eq!(last.walk(&plan), Err(Refusal::WalkerAtEnd));
 }

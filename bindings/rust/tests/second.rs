@@ -1,8 +1,8 @@
-//! The same calls put to the second program, which is written from document 01 and, of document 02, Ask 1 and Ask 3;
-//! Ask 2 changes no answer. Every answer agrees.
+//! The same calls put to the second program, which is written from document 01 and, of document 02, Ask 1, Ask 3 and
+//! Ask 4; Ask 2 changes no answer. Every answer agrees.
 
 use gaplinte::{
-    raw, Answered, Answers, Call, Line, Period, Plan, Refusal, Round, Start, Trial, Walker,
+    raw, Answered, Answers, Call, Line, Owner, Period, Plan, Refusal, Round, Start, Trial, Walker,
 };
 use second::orders::{self, Order};
 use second::random::Random;
@@ -57,6 +57,14 @@ fn numbered_second<T>(answer: Result<T, second::refusal::Refusal>) -> Result<T, 
     answer.map_err(second::refusal::Refusal::number)
 }
 
+/// An owner of the second program.
+fn owner_of_second(owner: ask::Owner) -> Owner {
+    match owner {
+        ask::Owner::Line(line) => Owner::Line(Line(line.into())),
+        ask::Owner::Idle { rest } => Owner::Idle { rest },
+    }
+}
+
 fn lists() -> impl Iterator<Item = Vec<u8>> {
     Shape::ALL.into_iter().flat_map(|shape| {
         let mut random = Random::new(11);
@@ -82,6 +90,23 @@ fn rounds(random: &mut Random) -> Vec<u64> {
         .collect();
     rounds.extend((0..ROUNDS).map(|_| random.draw()));
     rounds
+}
+
+/// Owners on two plans, with the rests of idle rounds.
+fn same_owners(plan: &Plan, other: &tree::Plan, rounds: impl IntoIterator<Item = u64>) {
+    for round in rounds {
+        let expected = owner_of_second(ask::owner(other, round));
+        assert_eq!(plan.owner(Round(round)), expected, "round {round}");
+    }
+}
+
+/// How many of the last rounds of 64 bits are idle and have the next owned one past them.
+fn rests_past_64_bits(plan: &Plan) -> usize {
+    let is_past = |&round: &u64| match plan.owner(Round(round)) {
+        Owner::Line(_) => false,
+        Owner::Idle { rest } => rest > u64::MAX - round,
+    };
+    (u64::MAX - ROUNDS..=u64::MAX).filter(is_past).count()
 }
 
 /// The lines that each of two plans has open, with period and start.
@@ -155,10 +180,7 @@ fn same_trials(plan: &Plan, other: &tree::Plan, random: &mut Random) -> Vec<Resu
 
 /// Owner, show, turns, the open lines and the walker on two plans that should have the same tree.
 fn ask_both(plan: &Plan, other: &tree::Plan, random: &mut Random) {
-    for round in rounds(random) {
-        let owner = ask::owner(other, round).map(|line| Line(line.into()));
-        assert_eq!(plan.owner(Round(round)), owner, "round {round}");
-    }
+    same_owners(plan, other, rounds(random));
     same_lines(plan, other);
     for line in 0..66 {
         let shown = numbered(plan.show(Line(line))).map(|shown| {
@@ -183,8 +205,8 @@ fn ask_both(plan: &Plan, other: &tree::Plan, random: &mut Random) {
         };
         for _ in 0..ROUNDS {
             let (answer, after) = walker::walk(other, place);
-            let answer = numbered_second(answer).map(|line| line.map(|line| Line(line.into())));
-            assert_eq!(numbered(walker.walk(plan)), answer);
+            let expected = numbered_second(answer).map(owner_of_second);
+            assert_eq!(numbered(walker.walk(plan)), expected);
             assert_eq!((walker.next.0, walker.owned), (after.next, after.owned));
             place = after;
         }
@@ -233,10 +255,11 @@ fn told_by_second(plan: &mut tree::Plan, list: &[u8]) -> Vec<Result<Answered, u8
     told.collect()
 }
 
-/// Lists, run whole on the empty plan and once more on the plan that they left.
+/// Lists, run whole on the empty plan and once more on the plan that they left. Rests past 2^64 are seen often.
 #[test]
 fn order_lists() {
     let mut random = Random::new(13);
+    let mut past = 0;
     for list in lists() {
         let mut plan = Plan::new();
         let mut other = tree::Plan::empty();
@@ -256,7 +279,9 @@ fn order_lists() {
             assert!(decoded.map(numbered).eq(told));
         }
         ask_both(&plan, &other, &mut random);
+        past += rests_past_64_bits(&plan);
     }
+    assert!(past > 1000, "{past}");
 }
 
 /// Before each open of a list trials with its line or another and with its period or another, and more after the list.
@@ -311,6 +336,9 @@ fn damaged_records() {
             assert_eq!(plan.is_tree(), held.record.tree().is_some());
             seen[usize::from(plan.is_tree())] += 1;
             same_lines(&plan, &held.plan);
+            let near = random.below(5000);
+            let asked = [0, near, random.draw(), u64::MAX - near, u64::MAX];
+            same_owners(&plan, &held.plan, asked);
 
             let (line, period) = (random.below(64), random.below(4096));
             let mut lines: Vec<u64> = plan.lines().map(|open| open.line.0).collect();

@@ -1,6 +1,6 @@
 //! Calls on different plans in different threads: each plan is as if its calls were the only ones.
 
-use gaplinte::{Answered, Plan, Refusal, Round, Walker};
+use gaplinte::{Answered, Owner, Plan, Refusal, Round, Walker};
 use second::lists;
 use second::random::Random;
 use second::shapes::Shape;
@@ -25,7 +25,7 @@ fn run(seed: u64) -> (Plan, Vec<Told>, Walker) {
             assert_eq!(walker.walk(&plan), Ok(next));
         }
         for open in plan.lines() {
-            assert_eq!(plan.owner(Round(open.start.0)), Some(open.line));
+            assert_eq!(plan.owner(Round(open.start.0)), Owner::Line(open.line));
         }
     }
     (plan, answers, walker)
@@ -54,7 +54,7 @@ fn one_plan_that_is_only_asked() {
         rounds.map(|round| plan.owner(Round(round))).collect()
     };
     let alone = owners(&plan);
-    assert!(alone.iter().any(Option::is_some));
+    assert!(alone.iter().any(|owner| owner.line().is_some()));
     thread::scope(|scope| {
         let threads: Vec<_> = (0..THREADS)
             .map(|_| scope.spawn(|| owners(&plan)))

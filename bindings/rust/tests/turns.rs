@@ -1,19 +1,10 @@
 //! Turns of a line: exactly the rounds that it owns among so many from a first one on. What is expected is worked out
 //! from its period and its start.
 
-use gaplinte::{Line, Period, Plan, Round, Start};
+mod plans;
 
-const CASE_A: [(u64, u64); 4] = [(4, 0), (6, 1), (8, 2), (12, 3)];
-
-/// Opens lines 1, 2, 3 .. with periods that have these starts.
-fn opened(lines: &[(u64, u64)]) -> Plan {
-    let mut plan = Plan::new();
-    for (line, &(period, start)) in (1..).zip(lines) {
-        let answer = plan.open(Line(line), Period(period));
-        assert_eq!(answer, Ok(Start(start)));
-    }
-    plan
-}
+use gaplinte::{Line, Plan, Round};
+use plans::{case_f, opened, CASE_A, CASE_C};
 
 /// Compares the turns of a line from a first round on, for some numbers of rounds.
 fn expect(plan: &Plan, line: u64, first: u64, expected: &[(u32, u64)]) {
@@ -75,9 +66,7 @@ fn shortest_and_longest_periods() {
 /// Counted round by round over whole numbers, for each number of rounds below 5,000, so past the longest period.
 #[test]
 fn round_by_round() {
-    let powers: Vec<_> = (1..=11).map(|k| (1 << k, (1 << (k - 1)) - 1)).collect();
-    let case_c = [(6, 0), (12, 1), (12, 7)];
-    for lines in [&CASE_A[..], &case_c, &powers, &[(4095, 0)], &[(1, 0)]] {
+    for lines in [&CASE_A[..], &CASE_C, &case_f(), &[(4095, 0)], &[(1, 0)]] {
         let plan = opened(lines);
         for (line, &(period, start)) in (1..).zip(lines) {
             for first in [0, start + 1, (1 << 32) - 1, u64::MAX - 2000, u64::MAX] {
