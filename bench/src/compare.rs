@@ -1,6 +1,8 @@
 //! Both give the same answers and leave the same records and bytes, on generated calls and lists.
 
-use crate::inputs::{list_of, plan_of_powers, rounds_under_11_nodes, ORDERS};
+use crate::inputs::{
+    list_of, plan_of, plan_of_powers, rounds_under_11_nodes, rounds_where, ORDERS,
+};
 use crate::measure::{LINES, TOGETHER};
 use crate::numbers::Numbers;
 use crate::{plain, programs, Calls, Record, LIBRARY, PLAIN, RECORD, SEED};
@@ -10,11 +12,15 @@ const CALLS: usize = 100_000;
 const LISTS: usize = 10_000;
 const PROGRAM_RUNS: usize = 200;
 
+/// The largest rest that there can be: of the round after the turn of a plan's only line, of period 4,095.
+const MOST_REST: i64 = 4_094;
+
 /// What was seen in the generated calls.
 #[derive(Default)]
 struct Seen {
     answers: [usize; 9],
     owned: usize,
+    largest_rest: i64,
     damaged: usize,
     no_tree: usize,
     most_lines: usize,
@@ -24,6 +30,14 @@ impl Seen {
     /// Notes an answer to an open, a close or a list.
     fn answer(&mut self, number: i64) {
         self.answers[-number.min(0) as usize] += 1;
+    }
+
+    /// Notes an answer to an owner call.
+    fn owner(&mut self, value: i64) {
+        match value {
+            0..64 => self.owned += 1,
+            _ => self.largest_rest = self.largest_rest.max(value - 64),
+        }
     }
 
     /// A damaged copy of a record.
@@ -71,13 +85,12 @@ fn compare_change(rows: &mut Record, numbers: &mut Numbers) -> i64 {
     answer
 }
 
-/// One generated round: the same owner. Answers whether it has one.
-fn compare_owner(rows: &Record, numbers: &mut Numbers) -> bool {
-    let round = numbers.round();
+/// The owner of a round by both: the same answer, which is returned, a line or 64 and the rest.
+fn compare_owner(rows: &Record, round: u64) -> i64 {
     let owner = (LIBRARY.owner)(rows, round);
     assert_eq!(owner, (PLAIN.owner)(rows, round), "the owners differ");
-    assert!((0..=64).contains(&owner));
-    owner < 64
+    assert!((0..=64 + MOST_REST).contains(&owner));
+    owner
 }
 
 /// Opens and closes, each with an owner asked before it. Every fourth is on a damaged copy.
@@ -96,12 +109,15 @@ fn compare_calls() {
         } else {
             &mut rows
         };
-        seen.owned += usize::from(compare_owner(record, &mut numbers));
+        seen.owner(compare_owner(record, numbers.round()));
         seen.answer(compare_change(record, &mut numbers));
         seen.most_lines = seen.most_lines.max(open_lines(&rows));
     }
     seen.print(&format!("{CALLS} opens and closes, with as many owners"));
-    println!("  {} of the rounds are owned", seen.owned);
+    println!(
+        "  {} of the rounds are owned; the largest rest of the others is {}",
+        seen.owned, seen.largest_rest
+    );
 }
 
 /// One list by both, with so many bytes lent for its answers: the same answer, record and bytes.
@@ -173,8 +189,21 @@ fn compare_programs(folder: &Path) {
 fn compare_under_11_nodes() {
     let rows = plan_of_powers();
     for round in rounds_under_11_nodes(TOGETHER) {
-        let owners = [LIBRARY, PLAIN].map(|calls| (calls.owner)(&rows, round));
-        assert_eq!(owners, [10, 10], "round {round}");
+        assert_eq!(compare_owner(&rows, round), 10, "round {round}");
+    }
+}
+
+/// The owned and the idle rounds that are measured: both give the same. No rest is 0, since no plan is empty.
+fn compare_measured_rounds() {
+    for lines in LINES {
+        let rows = plan_of(lines as u64);
+        for owned in [true, false] {
+            for round in rounds_where(&rows, owned, TOGETHER) {
+                let owner = compare_owner(&rows, round);
+                assert_eq!(owner < 64, owned, "round {round}");
+                assert_ne!(owner, 64, "round {round}");
+            }
+        }
     }
 }
 
@@ -182,6 +211,7 @@ fn compare_under_11_nodes() {
 pub fn compare_answers(folder: &Path) {
     compare_calls();
     compare_under_11_nodes();
+    compare_measured_rounds();
     compare_lists();
     compare_programs(folder);
 }

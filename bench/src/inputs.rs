@@ -34,12 +34,11 @@ pub fn rounds_under_11_nodes(count: usize) -> Vec<u64> {
     (0..count as u64).map(|at| 1_023 + 2_048 * at).collect()
 }
 
-/// As many rounds of each kind, owned and idle, in turn.
-pub fn rounds_for(rows: &Record, each: usize) -> Vec<u64> {
-    let is_owned = |round: &u64| plain::owner(rows, *round) < 64;
-    let owned = (0..).filter(is_owned).take(each);
-    let idle = (0..).filter(|round| !is_owned(round)).take(each);
-    owned.zip(idle).flat_map(<[u64; 2]>::from).collect()
+/// The first rounds that are owned, or else idle.
+pub fn rounds_where(rows: &Record, owned: bool, count: usize) -> Vec<u64> {
+    let is_owned = |round: u64| plain::owner(rows, round) < 64;
+    let rounds = (0..).filter(|&round| is_owned(round) == owned);
+    rounds.take(count).collect()
 }
 
 fn lines_where(rows: &Record, open: bool) -> Vec<u8> {

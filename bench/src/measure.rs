@@ -1,6 +1,8 @@
 //! The table: nanoseconds of the library and of plain Rust, which take turns, the best of many repetitions for each.
 
-use crate::inputs::{list_of, plan_of, plan_of_powers, rounds_for, rounds_under_11_nodes, ORDERS};
+use crate::inputs::{
+    list_of, plan_of, plan_of_powers, rounds_under_11_nodes, rounds_where, ORDERS,
+};
 use crate::programs::programs;
 use crate::{Calls, Record, LIBRARY, PLAIN, RECORD};
 use std::hint::black_box;
@@ -28,11 +30,20 @@ fn owners_of(calls: Calls, rows: Record, rounds: Vec<u64>) -> Task {
     })
 }
 
-/// Owners of as many owned as idle rounds, in a plan of so many lines.
-fn owners(calls: Calls, lines: usize) -> Task {
+fn owners_where(calls: Calls, lines: usize, owned: bool) -> Task {
     let rows = plan_of(lines as u64);
-    let rounds = rounds_for(&rows, TOGETHER / 2);
+    let rounds = rounds_where(&rows, owned, TOGETHER);
     owners_of(calls, rows, rounds)
+}
+
+/// Owners of owned rounds, in a plan of so many lines.
+fn owners_when_owned(calls: Calls, lines: usize) -> Task {
+    owners_where(calls, lines, true)
+}
+
+/// Owners of idle rounds, whose rest is answered, in a plan of so many lines.
+fn owners_when_idle(calls: Calls, lines: usize) -> Task {
+    owners_where(calls, lines, false)
 }
 
 /// Owners of rounds of the line that has 11 nodes above it, in case F's plan.
@@ -75,13 +86,20 @@ struct Measured {
     task: fn(Calls, usize) -> Task,
 }
 
-const MEASURED: [Measured; 4] = [
+const MEASURED: [Measured; 5] = [
     Measured {
-        name: "owner",
+        name: "owner, owned round",
         lines: &LINES,
         calls: TOGETHER,
         repetitions: 300,
-        task: owners,
+        task: owners_when_owned,
+    },
+    Measured {
+        name: "owner, idle round",
+        lines: &LINES,
+        calls: TOGETHER,
+        repetitions: 300,
+        task: owners_when_idle,
     },
     Measured {
         name: "owner, under 11 nodes",
@@ -150,8 +168,9 @@ pub fn profile(mut words: impl Iterator<Item = String>) {
         _ => PLAIN,
     };
     let mut number = || words.next().and_then(|word| word.parse().ok());
-    let row: usize =
-        number().expect("a row: 0 owner, 1 owner under 11 nodes, 2 open with close, 3 list");
+    let row: usize = number().expect(
+        "a row: 0 owned round, 1 idle round, 2 owner under 11 nodes, 3 open with close, 4 list",
+    );
     let lines: usize = number().expect("a number of lines");
     let times: usize = number().expect("a number of tasks");
     let mut task = (MEASURED[row].task)(calls, lines);

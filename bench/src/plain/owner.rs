@@ -1,11 +1,14 @@
-//! The owner of a round.
+//! The owner of a round, and the rest of an idle one.
 
-use super::paths::{is_closed, legal, same_node};
+use super::paths::{is_closed, legal, length, same_node};
 use super::{plan_in, Path, Plan, LINES, ROWS};
 use crate::Record;
 
-/// What is answered for an idle round.
+/// What is answered for an idle round, less its rest.
 const IDLE: i64 = 64;
+
+/// Stands for the rest while no open line is seen: a rest is at most 4,094.
+const NO_LINE: u64 = 4_095;
 
 /// The line of smallest number that takes this edge of the node at a level of a path.
 fn line_under(plan: &Plan, path: &Path, level: usize, edge: u16) -> Option<usize> {
@@ -33,11 +36,45 @@ fn owner_of(plan: &Plan, round: u64) -> Option<usize> {
     None
 }
 
-/// The line that owns a round, or 64. A record that is no tree counts as the empty plan.
+/// The period and the start of a line.
+fn times_of(path: &Path) -> [u16; 2] {
+    let mut product = 1;
+    let mut sum = 0;
+    for [weight, edge] in &path[..length(path)] {
+        sum += edge * product;
+        product *= weight;
+    }
+    [product, sum]
+}
+
+/// How many rounds lie from a round to the next one of an open line.
+fn until_turn(path: &Path, round: u64) -> u64 {
+    let [period, start] = times_of(path).map(u64::from);
+    (start + period - round % period) % period
+}
+
+/// How many rounds lie from an idle round to the next owned one, 0 in the empty plan only.
+fn rest_of(plan: &Plan, round: u64) -> u64 {
+    let mut least = NO_LINE;
+    for path in plan {
+        if !is_closed(path) {
+            least = least.min(until_turn(path, round));
+        }
+    }
+    match least {
+        NO_LINE => 0,
+        _ => least,
+    }
+}
+
+/// The line that owns a round, or 64 and the rest. A record that is no tree counts as the empty plan.
 pub fn owner(rows: &Record, round: u64) -> i64 {
     let plan = plan_in(rows);
     if !legal(plan) {
         return IDLE;
     }
-    owner_of(plan, round).map_or(IDLE, |line| line as i64)
+    match owner_of(plan, round) {
+        Some(line) => line as i64,
+        None => IDLE + rest_of(plan, round) as i64,
+    }
 }
