@@ -1,6 +1,6 @@
 //! The owner of a round, and the rest of an idle one.
 
-use super::paths::{is_closed, legal, length, same_node};
+use super::paths::{is_closed, legal, same_node};
 use super::{plan_in, Path, Plan, LINES, ROWS};
 use crate::Record;
 
@@ -40,7 +40,10 @@ fn owner_of(plan: &Plan, round: u64) -> Option<usize> {
 fn times_of(path: &Path) -> [u16; 2] {
     let mut product = 1;
     let mut sum = 0;
-    for [weight, edge] in &path[..length(path)] {
+    for &[weight, edge] in path {
+        if weight == 0 {
+            break;
+        }
         sum += edge * product;
         product *= weight;
     }
@@ -50,7 +53,11 @@ fn times_of(path: &Path) -> [u16; 2] {
 /// How many rounds lie from a round to the next one of an open line.
 fn until_turn(path: &Path, round: u64) -> u64 {
     let [period, start] = times_of(path).map(u64::from);
-    (start + period - round % period) % period
+    let passed = round % period;
+    if passed <= start {
+        return start - passed;
+    }
+    start + period - passed
 }
 
 /// How many rounds lie from an idle round to the next owned one, 0 in the empty plan only.

@@ -2,7 +2,7 @@
 -- Assumes nothing.
 use Prim.Native.Nat.{ℕ, suc, _+_, _<_}
 use native.Mathlib.Omega.{arith}
-use mathlib.Core.Path.{_≡_, ap}
+use mathlib.Core.Path.{_≡_}
 use mathlib.Core.Logic.{_⊎_, inl, inr}
 use mathlib.Core.Bool.{true}
 use mathlib.Core.List.{List}
@@ -10,8 +10,8 @@ use lib.Dec.{eqb}
 use lib.ListN.{length}
 use borrow.Author.Tests.{eq-eqb, ne-eqb}
 use Rattle.tree.specs.Record.{row-at, path-at}
-use Rattle.paths.proofs.PathRest.{zero-or-not, path-rest-row, path-rest-end, path-length-at-most-11}
-use Rattle.paths.proofs.PathRows.{path-rest-length}
+use Rattle.paths.proofs.PathRest.{zero-or-not, path-length-at-most-11}
+use Rattle.paths.proofs.PathRows.{path-ends, path-goes-on}
 
 module _ (rows : List ℕ) (L : ℕ) {l : ℕ} (below : l < length (path-at rows L)) where
   -- no path is longer than 11 rows
@@ -24,9 +24,7 @@ module _ (rows : List ℕ) (L : ℕ) {l : ℕ} (below : l < length (path-at rows
     where
       go : (v ≡ 0) ⊎ (v ≡ 0 → ⊥) → eqb v 0 ≡ eqb (length (path-at rows L)) (suc l)
       go (inl z) =
-          let none = ap length (path-rest-end rows L (l + 1) within read z) in
-          let end : length (path-at rows L) ≡ suc l = omega (arith, path-rest-length rows L (l + 1) (omega arith)) in
+          let end : length (path-at rows L) ≡ suc l = omega (arith, path-ends rows L (omega arith) within read z) in
           rw (eq-eqb _ _ z, eq-eqb _ _ end)
       go (inr n) =
-          let more = ap length (path-rest-row rows L (l + 1) within read n) in
-          rw (ne-eqb _ _ n, ne-eqb (length (path-at rows L)) (suc l) (λ e. omega (arith, path-rest-length rows L (l + 1) (omega arith))))
+          rw (ne-eqb _ _ n, ne-eqb (length (path-at rows L)) (suc l) (λ e. omega (arith, path-goes-on rows L (omega arith) within read n)))

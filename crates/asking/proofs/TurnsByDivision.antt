@@ -2,7 +2,7 @@
 -- Assumes nothing.
 use Prim.Native.Nat.{ℕ, zero, suc, _+_, _-_, _*_, _/_, _%_, _<_, _≤_}
 use native.Mathlib.Omega.{arith}
-use native.Mathlib.Nat.{mod-add-div, mod-lt, mod-add-mod, add-mod-mod, add-mul-mod-self-left, add-mul-div-left, add-div-right, div-eq-of-lt, div-eq-of-lt-le}
+use native.Mathlib.Nat.{mod-add-div, mod-lt, mod-eq-of-lt, mod-add-mod, add-mod-mod, add-mod-right, add-mul-mod-self-left, add-mul-div-left, add-div-right, div-eq-of-lt, div-eq-of-lt-le}
 use native.Mathlib.Decide.{decLt}
 use mathlib.Core.Path.{_≡_, refl, sym, _∙_, ap}
 use mathlib.Core.Bool.{Bool, true, false}
@@ -80,6 +80,18 @@ unfolding until-turn
 until-below q u a period-positive = mod-lt (u + q - a % q) period-positive
 
 module _ (q u : ℕ) (below : u < q) (a : ℕ) where
+  -- this period's turn is still to come, or it is now
+  pub until-in-period : a % q ≤ u → until-turn q u a ≡ u - a % q
+  unfolding until-turn
+  until-in-period ahead =
+      let whole : u + q - a % q ≡ u - a % q + q = omega arith in
+      rw whole (add-mod-right (u - a % q) q ∙ mod-eq-of-lt (omega arith))
+
+  -- it is over, and the next period's is to come
+  pub until-in-next : u < a % q → until-turn q u a ≡ u + q - a % q
+  unfolding until-turn
+  until-in-next over = mod-eq-of-lt (omega arith)
+
   -- after so many rounds comes one that fits
   pub until-fits : (a + until-turn q u a) % q ≡ u
   unfolding until-turn

@@ -126,13 +126,16 @@ pub fn times_of(rows: &[u16; 1408], line: usize) -> Times
     requires { ⌜ (legal (now rows) ≡ true) × (line < 64) ⌝ }
     ensures { λ r. ⌜ (r .period .0 ≡ product (path-at (now (rows .entry)) line)) × (r .start .0 ≡ sum (path-at (now (rows .entry)) line)) ⌝ }
 {
-    let count = paths::path_length(rows, line);
     let mut product: u16 = 1;
     let mut sum: u16 = 0;
     let mut k = 0;
-    while k < count {
+    while k < 11 {
+        let w = paths::weight(rows, line, k);
+        if w == 0 {
+            break;
+        }
         sum = sum + paths::edge(rows, line, k) * product;
-        product = product * paths::weight(rows, line, k);
+        product = product * w;
         k += 1;
     }
     Times {
@@ -158,20 +161,24 @@ pub fn rows_of(rows: &[u16; 1408], line: usize) -> [Row; 11]
 }
 
 // How many rounds lie from a round to the next one that fits a line's times, which may be the round itself. Of a large
-// round only the remainder enters the sum.
+// round only the remainder enters the difference.
 pub(crate) fn until_turn(times: Times, first: u64) -> u64
-    requires { ⌜ 0 < times .period .0 ⌝ }
+    requires { ⌜ times .start .0 < times .period .0 ⌝ }
     ensures { λ r. ⌜ r ≡ until-turn (times .period .0) (times .start .0) first ⌝ }
 {
     let period = times.period.0 as u64;
     let start = times.start.0 as u64;
-    (start + period - first % period) % period
+    let passed = first % period;
+    if passed <= start {
+        return start - passed;
+    }
+    start + period - passed
 }
 
 // How many rounds a line with these times owns among so many that begin with `first`, those past 2^64 included. Fewer
 // rounds than `needed` end before its next turn.
 pub fn turns_of(times: Times, first: u64, rounds: u32) -> u64
-    requires { ⌜ 0 < times .period .0 ⌝ }
+    requires { ⌜ times .start .0 < times .period .0 ⌝ }
     ensures { λ r. ⌜ r ≡ turns-by-times (times .period .0) (times .start .0) first rounds ⌝ }
 {
     let needed = until_turn(times, first) + 1;

@@ -74,6 +74,13 @@ pub carried-start : (rows : List ℕ) (L : ℕ) → Carried rows L 1 0 0
 unfolding product sum sum-from
 carried-start rows L = record { within = zero-le; product-is = refl; sum-is = refl }
 
+-- the start of a line is below its period; of a closed line they are 0 and 1
+edges-below : (rows : List ℕ) → legal rows ≡ true → (L : ℕ) → L < 64 → EdgesBelow (path-at rows L)
+edges-below rows is-legal L below = path-edges-below (path-at rows L) (legal-in-range rows is-legal L below)
+
+pub path-start-below : (rows : List ℕ) → legal rows ≡ true → (L : ℕ) → L < 64 → sum (path-at rows L) < product (path-at rows L)
+path-start-below rows is-legal L below = sum-below (path-at rows L) (edges-below rows is-legal L below)
+
 module _ {rows : List ℕ} {L m s k : ℕ} (carried : Carried rows L m s k) where
   pub carried-row : k < length (path-at rows L) → {e w : ℕ} → e ≡ row-at rows L k .edge → w ≡ row-at rows L k .weight → Carried rows L (m * w) (s + e * m) (k + 1)
   carried-row below read-edge read = record {
@@ -89,7 +96,7 @@ module _ {rows : List ℕ} {L m s k : ℕ} (carried : Carried rows L m s k) wher
 
   module _ (is-legal : legal rows ≡ true) (line-below : L < 64) where
     edges : EdgesBelow (path-at rows L)
-    edges = path-edges-below (path-at rows L) (legal-in-range rows is-legal L line-below)
+    edges = edges-below rows is-legal L line-below
 
     pub carried-below : s < m
     carried-below = rw (carried .sum-is, carried .product-is) (sum-below (take k (path-at rows L)) (take-edges-below (path-at rows L) k edges))

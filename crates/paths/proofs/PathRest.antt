@@ -67,10 +67,6 @@ module _ (rows : List ℕ) (L : ℕ) where
   unfolding path-rest
   path-rest-product k = path-from-product rows L k (11 - k)
 
-  -- a period is at least 1
-  pub path-product : 1 ≤ product (path-at rows L)
-  path-product = rw path-rest-start at (path-rest-product 0)
-
   pub path-rest-none : (k : ℕ) → 11 ≤ k → path-rest rows L k ≡ []
   unfolding path-rest path-from
   path-rest-none k h = let e : 11 - k ≡ 0 = omega arith in rw e

@@ -33,6 +33,14 @@ module _ (rows : List ℕ) (L : ℕ) where
   pub path-rest-length : (k : ℕ) → k ≤ length (path-at rows L) → length (path-rest rows L k) ≡ length (path-at rows L) - k
   path-rest-length k within = rw (← drop-path k within) (length-drop k (path-at rows L))
 
+  -- w was read as the weight of row k, which the path comes to
+  module _ {k : ℕ} (within : k ≤ length (path-at rows L)) (below : k < 11) {w : ℕ} (read : w ≡ row-at rows L k .weight) where
+    pub path-ends : w ≡ 0 → length (path-at rows L) ≤ k
+    path-ends zero-weight = omega (arith, path-rest-length k within, ap length (path-rest-end rows L k below read zero-weight))
+
+    pub path-goes-on : (w ≡ 0 → ⊥) → k < length (path-at rows L)
+    path-goes-on some-weight = omega (arith, path-rest-length k within, ap length (path-rest-row rows L k below read some-weight))
+
   module _ {k : ℕ} (below : k < length (path-at rows L)) where
     rest-of-path : drop k (path-at rows L) ≡ path-rest rows L k
     rest-of-path = drop-path k (omega arith)

@@ -19,7 +19,7 @@ until-turn-requires c κs = search needs
 add-needed : tie.Need-add-needed
 add-needed c =
     let start = c .before in
-    let below : c .until-turn .result < start .args .times .period .0 = rw (c .until-turn .ensures) (until-below _ _ _ (start .pre)) in
+    let below : c .until-turn .result < start .args .times .period .0 = rw (c .until-turn .ensures) (until-below _ _ _ (omega arith)) in
     omega arith
 
 returns : tie.Need-returns

@@ -2,7 +2,7 @@
 -- Assumes nothing.
 use mathlib.Core.Path.{sym, _∙_}
 use borrow.Author.Needs.{needs}
-use Rattle.paths.proofs.PathRest.{path-product}
+use Rattle.paths.proofs.PathNumbers.{path-start-below}
 use Rattle.asking.proofs.NearestTurn.{nearer-closed, nearer-this, nearer-earlier}
 use Rattle.asking.proofs.rest.nearer_turn.Statement.{statement}
 use Rattle.asking.proofs.rest.nearer_turn.Tie as tie
@@ -17,7 +17,9 @@ times-of-requires : tie.Need-times-of-requires
 times-of-requires c κs = search needs
 
 until-turn-requires : tie.Need-until-turn-requires
-until-turn-requires c κs = rw (c .times-of .ensures .0) (path-product _ _)
+until-turn-requires c κs =
+    let given = c .before .before .before .pre in
+    rw (c .times-of .ensures .0, c .times-of .ensures .1) (path-start-below _ (given .0) _ (given .1))
 
 returns-2 : tie.Need-returns-2
 returns-2 c =

@@ -3,7 +3,7 @@
 use native.Mathlib.Omega.{arith}
 use mathlib.Core.Path.{sym, _∙_}
 use borrow.Author.Needs.{needs}
-use Rattle.paths.proofs.PathRest.{path-product}
+use Rattle.paths.proofs.PathNumbers.{path-start-below}
 use Rattle.plan.specs.Ask.{turns-answer}
 use Rattle.plan.proofs.AskingLaws.{turns-above, turns-absent, found-legal, turns-found}
 use Rattle.plan.proofs.ask.turns_rows.Statement.{statement}
@@ -36,7 +36,9 @@ times-of-requires c κs =
     (found-legal _ _ number _ (sym (after-find .find-line .ensures) ∙ c .enum-told .given .1), omega arith)
 
 turns-of-requires : tie.Need-turns-of-requires
-turns-of-requires c κs = rw (c .times-of .ensures .0) (path-product _ _)
+turns-of-requires c κs =
+    let given = times-of-requires (c .before) (c .times-of .lifetimes) in
+    rw (c .times-of .ensures .0, c .times-of .ensures .1) (path-start-below _ (given .0) _ (given .1))
 
 returns-3 : tie.Need-returns-3
 unfolding turns-answer
