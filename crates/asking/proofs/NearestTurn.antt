@@ -10,7 +10,7 @@ use mathlib.Core.Bool.{Bool, true, false, true≢false, not}
 use mathlib.Core.List.{List}
 use mathlib.Core.Option.{Option, none, some}
 use borrow.Author.Count.{below-more}
-use borrow.Author.Tests.{not-true, not-false}
+use borrow.Author.Tests.{not-true}
 use Rattle.tree.specs.declared.Row.{Row}
 use Rattle.tree.specs.Search.{found}
 use Rattle.tree.specs.Tree.{Tree, present, product, sum, period-of, start-of}
@@ -151,9 +151,9 @@ module _ (rows : List ℕ) (is-legal : legal rows ≡ true) (n : ℕ) where
   module _ {least k : ℕ} (all : Nearest rows n least k) (past : 64 ≤ k) where
     closed-where-none : least ≡ 4095 → AllClosed rows
     unfolding AllClosed
-    closed-where-none none-found M below = not-false _ (by-rows (no-rows (path-at rows M)) refl)
+    closed-where-none none-found M below = by-rows (no-rows (path-at rows M)) refl
       where
-        by-rows : (b : Bool) → no-rows (path-at rows M) ≡ b → not b ≡ false
+        by-rows : (b : Bool) → no-rows (path-at rows M) ≡ b → b ≡ true
         by-rows true closed = refl
         by-rows false there = absurd (omega (arith, all .none-nearer M (omega arith) there, turn-below M below there))
 

@@ -13,7 +13,7 @@ use Rattle.tree.specs.Refusals.{line-refusal}
 use Rattle.tree.specs.Calls.{gives, refuses, gives-unless, show-outcome, turns-outcome}
 use Rattle.tree.specs.Record.{path-at, no-rows, legal}
 use Rattle.paths.specs.Rules.{owner-on-paths}
-use Rattle.tree.proofs.Resting.{answer-in-empty}
+use Rattle.tree.proofs.Resting.{idle-in-empty}
 use Rattle.tree.proofs.Checks.{line-refused-1, line-refused-4, close-allowed}
 use Rattle.bridge.specs.Rows.{tree-of}
 use Rattle.bridge.proofs.TreeOfRecord.{treeOf-illegal, legal-on-record, paths-on-record, open-on-record}
@@ -44,7 +44,7 @@ module _ (rows : List ℕ) where
     empty-on-illegal = treeOf-illegal (record { rows = rows }) illegal
 
     pub owner-on-illegal : (n : ℕ) → owner-or-rest n (tree-of rows) ≡ idle-for 0
-    owner-on-illegal n = answer-in-empty n (tree-of rows) empty-on-illegal
+    owner-on-illegal n = idle-in-empty n (tree-of rows) empty-on-illegal
 
     closed-on-illegal : (L : ℕ) → is-open L (tree-of rows) ≡ false
     unfolding is-open path found

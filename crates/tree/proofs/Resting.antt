@@ -119,22 +119,10 @@ module _ (t : Tree) (is-legal : Legal t) (n : ℕ) where
 -- What owner answers
 
 module _ (n : ℕ) (t : Tree) where
-  pub answer-owned : (L : ℕ) → owner n t ≡ some L → owner-or-rest n t ≡ owned-by L
-  unfolding owner-or-rest or-rest
-  answer-owned L found-line = rw found-line
-
-  pub answer-idle : owner n t ≡ none → owner-or-rest n t ≡ idle-for (rest n t)
-  unfolding owner-or-rest or-rest
-  answer-idle idle = rw idle
-
-  pub answer-in-empty : t ≡ nothing → owner-or-rest n t ≡ idle-for 0
-  unfolding owner-or-rest or-rest owner rest present
-  answer-in-empty empty = rw empty
-
   -- a line is answered exactly when it is the owner
   pub owned-exactly : (L : ℕ) → (owner-or-rest n t ≡ owned-by L) ↔ (owner n t ≡ some L)
   unfolding owner-or-rest or-rest
-  owned-exactly L = (by-owner (owner n t), answer-owned L)
+  owned-exactly L = (by-owner (owner n t), λ line-found. rw line-found)
     where
       by-owner : (o : Option ℕ) → or-rest o (rest n t) ≡ owned-by L → o ≡ some L
       by-owner none told = let z : _≡_ {A = ℕ} 0 1 = cc in absurd (omega arith)
@@ -143,8 +131,13 @@ module _ (n : ℕ) (t : Tree) where
   -- and a rest exactly when there is no owner and it is the rest
   pub idle-exactly : (g : ℕ) → (owner-or-rest n t ≡ idle-for g) ↔ ((owner n t ≡ none) × (rest n t ≡ g))
   unfolding owner-or-rest or-rest
-  idle-exactly g = (by-owner (owner n t), λ idle. answer-idle (idle .0) ∙ ap idle-for (idle .1))
+  idle-exactly g = (by-owner (owner n t), λ idle. rw (idle .0, idle .1))
     where
       by-owner : (o : Option ℕ) → or-rest o (rest n t) ≡ idle-for g → (o ≡ none) × (rest n t ≡ g)
       by-owner none told = (refl, cc)
       by-owner (some M) told = let z : _≡_ {A = ℕ} 0 1 = cc in absurd (omega arith)
+
+  -- in the empty plan every round is idle, with rest 0
+  pub idle-in-empty : t ≡ nothing → owner-or-rest n t ≡ idle-for 0
+  unfolding owner-or-rest or-rest owner rest present
+  idle-in-empty empty = rw empty

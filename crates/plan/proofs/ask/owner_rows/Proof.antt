@@ -5,9 +5,8 @@ use mathlib.Core.Bool.{true}
 use borrow.Author.Needs.{needs}
 use borrow.Author.Tests.{not-true, not-false}
 use denote.Ref.{now}
-use Rattle.tree.specs.Asking.{idle-for}
 use Rattle.tree.specs.Record.{legal}
-use Rattle.tree.proofs.Resting.{answer-owned, answer-idle}
+use Rattle.tree.proofs.Resting.{owned-exactly, idle-exactly}
 use Rattle.bridge.proofs.AskingRecords.{owner-on-illegal, owner-on-record}
 use Rattle.asking.specs.Answers.{owner-answered}
 use Rattle.plan.specs.Ask.{owner-answer}
@@ -42,14 +41,14 @@ unfolding owner-answer
 returns-2 c =
     let walked = c .before .before .before in
     let idle = sym (walked .owner-of .ensures ∙ owner-on-record _ (is-tree walked) _) ∙ ap owner-answered (c .before .enum-told .given .1) in
-    sym (answer-idle _ _ idle ∙ ap idle-for (sym (c .rest-of .ensures)))
+    sym (idle-exactly _ _ _ .1 (idle, sym (c .rest-of .ensures)))
 
 returns-3 : tie.Need-returns-3
 unfolding owner-answer
 returns-3 c =
     let walked = c .before .before .before in
     let line = sym (walked .owner-of .ensures ∙ owner-on-record _ (is-tree walked) _) ∙ ap owner-answered (c .before .found .given .1) in
-    sym (answer-owned _ _ _ line)
+    sym (owned-exactly _ _ _ .1 line)
 
 pub owner-rows-spec : {M : Type 1} → statement M
 owner-rows-spec =
