@@ -28,7 +28,7 @@
 
 /* Lines are 0 to 63. */
 #define GAPLINTE_LINES 64
-/* A value of owner or of the walker from this on says that the round is idle, and is this and the rest. */
+/* A value of owner or of the walker from this on says that the round is idle, and is this plus the rest. */
 #define GAPLINTE_IDLE_FROM 64
 /* The longest rest; that of an empty plan is 0, and any other is 1 or more. */
 #define GAPLINTE_LONGEST_REST 4094
@@ -177,7 +177,7 @@ GAPLINTE_NODISCARD int64_t gaplinte_trial(const gaplinte_plan *plan, uint64_t li
 /* Closes a line. The value is 0. Refused with 1 or 4. */
 GAPLINTE_NODISCARD int64_t gaplinte_close(gaplinte_plan *plan, uint64_t line);
 
-/* The owner of a round. The value is a line or, where the round is idle, GAPLINTE_IDLE_FROM and the rest: how many
+/* The owner of a round. The value is a line or, where the round is idle, GAPLINTE_IDLE_FROM plus the rest: how many
  * rounds lie from this one to the next owned one, 1 to GAPLINTE_LONGEST_REST, and 0 for an empty plan only. The value
  * can be 4,158, for which an int8_t is too narrow. Rounds are whole numbers: the next owned one can be past 2^64 - 1,
  * and then no uint64_t holds round + rest. Never refused. */
@@ -191,7 +191,7 @@ GAPLINTE_NODISCARD int64_t gaplinte_show(const gaplinte_plan *plan, uint64_t lin
  * no uint64_t holds them. 0 rounds give 0. Refused with 1 or 4. */
 GAPLINTE_NODISCARD int64_t gaplinte_turns(const gaplinte_plan *plan, uint64_t line, uint64_t first, uint32_t rounds);
 
-/* The walker. The value is that of gaplinte_owner for the next round: a line, or GAPLINTE_IDLE_FROM and the rest. The
+/* The walker. The value is that of gaplinte_owner for the next round: a line, or GAPLINTE_IDLE_FROM plus the rest. The
  * place moves on by one round, and its count by 1 where the round is owned. Refused with 9 where either number is
  * 2^64 - 1. */
 GAPLINTE_NODISCARD int64_t gaplinte_walk(const gaplinte_plan *plan, gaplinte_place *place);

@@ -12,15 +12,15 @@ const CALLS: usize = 100_000;
 const LISTS: usize = 10_000;
 const PROGRAM_RUNS: usize = 200;
 
-/// The largest rest that there can be: of the round after the turn of a plan's only line, of period 4,095.
-const MOST_REST: i64 = 4_094;
+/// The longest rest that there can be: of the round after the turn of a plan's only line, of period 4,095.
+const LONGEST_REST: i64 = 4_094;
 
 /// What was seen in the generated calls.
 #[derive(Default)]
 struct Seen {
     answers: [usize; 9],
     owned: usize,
-    largest_rest: i64,
+    longest_rest: i64,
     damaged: usize,
     no_tree: usize,
     most_lines: usize,
@@ -36,7 +36,7 @@ impl Seen {
     fn owner(&mut self, value: i64) {
         match value {
             0..64 => self.owned += 1,
-            _ => self.largest_rest = self.largest_rest.max(value - 64),
+            _ => self.longest_rest = self.longest_rest.max(value - 64),
         }
     }
 
@@ -85,11 +85,11 @@ fn compare_change(rows: &mut Record, numbers: &mut Numbers) -> i64 {
     answer
 }
 
-/// The owner of a round by both: the same answer, which is returned, a line or 64 and the rest.
+/// The owner of a round by both: the same answer, which is returned, a line or 64 plus the rest.
 fn compare_owner(rows: &Record, round: u64) -> i64 {
     let owner = (LIBRARY.owner)(rows, round);
     assert_eq!(owner, (PLAIN.owner)(rows, round), "the owners differ");
-    assert!((0..=64 + MOST_REST).contains(&owner));
+    assert!((0..=64 + LONGEST_REST).contains(&owner));
     owner
 }
 
@@ -115,8 +115,8 @@ fn compare_calls() {
     }
     seen.print(&format!("{CALLS} opens and closes, with as many owners"));
     println!(
-        "  {} of the rounds are owned; the largest rest of the others is {}",
-        seen.owned, seen.largest_rest
+        "  {} of the rounds are owned; the longest rest of the others is {}",
+        seen.owned, seen.longest_rest
     );
 }
 

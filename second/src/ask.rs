@@ -243,7 +243,7 @@ mod tests {
     }
 
     /// No round up to the next owned one is passed over, also where that is past 2^64: as a
-    /// round of 64 bits 2^64 would be 0, which each of the first lines owns.
+    /// round of 64 bits 2^64 would be 0, which the first line of each plan owns.
     #[test]
     fn rests_end_at_the_first_round_that_fits() {
         for periods in [&[7][..], &[3, 9], &[5, 35, 10], &[4_095, 585, 455]] {

@@ -74,7 +74,7 @@ fn rest_of(plan: &Plan, round: u64) -> u64 {
     }
 }
 
-/// The line that owns a round, or 64 and the rest. A record that is no tree counts as the empty plan.
+/// The line that owns a round, or 64 plus the rest. A record that is no tree counts as the empty plan.
 pub fn owner(rows: &Record, round: u64) -> i64 {
     let plan = plan_in(rows);
     if !legal(plan) {

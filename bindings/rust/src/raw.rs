@@ -5,7 +5,7 @@
 pub const PLAN_NUMBERS: usize = 1408;
 /// The numbers that show writes: period, start, and 11 rows of weight and edge.
 pub const SHOWN_NUMBERS: usize = 24;
-/// A value of owner or of the walker from this on says that the round is idle, and is this and the rest.
+/// A value of owner or of the walker from this on says that the round is idle, and is this plus the rest.
 pub const IDLE_FROM: i64 = 64;
 
 // The only unsafe code: a foreign function can be declared and called in no other way. A reference to an array is the
@@ -82,7 +82,7 @@ pub fn close(rows: &mut [u16; PLAN_NUMBERS], line: u64) -> i64 {
     foreign::gaplinte_close(rows, line)
 }
 
-/// The owner of a round; the value is its line, or [`IDLE_FROM`] and the rest. Never refused.
+/// The owner of a round; the value is its line, or [`IDLE_FROM`] plus the rest. Never refused.
 #[must_use]
 pub fn owner(rows: &[u16; PLAN_NUMBERS], round: u64) -> i64 {
     foreign::gaplinte_owner(rows, round)
@@ -101,7 +101,7 @@ pub fn turns(rows: &[u16; PLAN_NUMBERS], line: u64, first: u64, rounds: u32) -> 
     foreign::gaplinte_turns(rows, line, first, rounds)
 }
 
-/// The walker on a place, which is the next round and the count; the value is that round's line, or [`IDLE_FROM`] and
+/// The walker on a place, which is the next round and the count; the value is that round's line, or [`IDLE_FROM`] plus
 /// the rest. Refused with 9.
 #[must_use]
 pub fn walk(rows: &[u16; PLAN_NUMBERS], place: &mut [u64; 2]) -> i64 {

@@ -184,5 +184,5 @@ module _ (rows : List ℕ) (is-legal : legal rows ≡ true) (n : ℕ) where
             record {
               empty-plan = λ empty. absurd (true≢false (sym (stands-present _ t _ _ (stands-there (next .number) number-below (next .is-there))) ∙ empty));
               next-owned = λ here. rw (next .turn-is) (ap found (owned-at-turn (next .number) number-below (next .is-there)));
-              none-before = λ i less. idle-before i less (owner (n + i) t) refl;
+              none-before = λ i less. ap found (idle-before i less (owner (n + i) t) refl);
             }

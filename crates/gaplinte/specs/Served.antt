@@ -33,7 +33,7 @@ pub record ChangeServed (c : Call) (before after : List ℕ) (r : ℤ) : Type 0 
 
 -- Owner
 
--- (Asking the plan, 1; Ask 4, 2) The value is the line or, where the round is idle, 64, which is no line, and the rest.
+-- (Asking the plan, 1; Ask 4, 2) The value is the line or, where the round is idle, 64, which is no line, plus the rest.
 unfoldable pub owner-value : OwnerOrRest → ℕ
 owner-value (owned-by L) = L
 owner-value (idle-for g) = 64 + g

@@ -8,7 +8,7 @@ use crate::answers;
 use plan::ask::OwnerAnswer;
 use plan::ask::TurnsAnswer;
 
-// The owner of a round: its line, or 64 and the rest where the round is idle. It is never refused.
+// The owner of a round: its line, or 64 plus the rest where the round is idle. It is never refused.
 #[no_mangle]
 pub extern "C" fn gaplinte_owner(rows: &[u16; 1408], round: u64) -> i64
     ensures { λ r. ⌜ r ≡ answer-number (owner-outcome round (now (rows .entry))) ⌝ }

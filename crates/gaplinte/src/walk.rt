@@ -4,8 +4,8 @@ use crate::answers;
 use plan::walker::WalkAnswer;
 use plan::walker::WalkerPlace;
 
-// The owner of the next round: its line, or 64 and the rest where the round is idle. The place moves on; where the call is
-// refused it is as found.
+// The owner of the next round: its line, or 64 plus the rest where the round is idle. The place moves on; where the call
+// is refused it is as found.
 #[no_mangle]
 pub extern "C" fn gaplinte_walk(rows: &[u16; 1408], place: &mut [u64; 2]) -> i64
     ensures { λ r. ⌜ WalkServed (now (rows .entry)) (now (place .entry)) (now (place .exit)) r ⌝ }

@@ -1,10 +1,11 @@
--- The rest that the owner call tells after a list of opens and closes is the one by the ledger (specs/Ran.antt), in each form of the calls.
+-- The rest that the owner call tells after a list of opens and closes is the one by the ledger (specs/Ran.antt), by value and on a lent record; that of the
+-- library is in Demand3OfLibrary.antt.
 -- Assumes nothing.
 use Prim.Native.Nat.{ℕ, _+_}
 use mathlib.Core.Path.{_≡_, sym, _∙_, ap, subst}
 use mathlib.Core.Bool.{true, false, true≢false, not-eq-not}
 use mathlib.Core.List.{List}
-use mathlib.Core.Option.{some, Option·some-ne-none}
+use mathlib.Core.Option.{some}
 use Rattle.tree.specs.Search.{found}
 use Rattle.tree.specs.Tree.{Tree, present}
 use Rattle.tree.specs.Shape.{Legal}
@@ -43,7 +44,7 @@ module _ (entries : List Entry) (t : Tree) (is-legal : Legal t) (claim : Demand3
   not-empty x = stands-present (x .0) t _ _ (open-stands (x .0) t (claim .open-lines (x .0) ∙ ap found (x .2)))
 
   pub rest-by-ledger : (round g : ℕ) → owner-or-rest round t ≡ idle-for g → RestsFor entries round g
-  unfolding owned
+  unfolding owned found
   rest-by-ledger round g told =
       let idle = idle-exactly round t g .0 told in
       let is-rest = subst (IsRest round t) (idle .1) (rest-is-rest t is-legal round) in
@@ -54,7 +55,7 @@ module _ (entries : List Entry) (t : Tree) (is-legal : Legal t) (claim : Demand3
           λ none-open. sym (idle .1) ∙ zero-where-empty .1 (no-line none-open),
         );
         next-owned = λ some. fitting (round + g) (found-some (owner (round + g) t) (is-rest .next-owned (not-empty some)));
-        none-before = λ k less L b entered fits. Option·some-ne-none L (sym (claim .ownership (round + k) L .1 (b, entered, fits)) ∙ is-rest .none-before k less);
+        none-before = λ k less L b entered fits. true≢false (sym (ap found (claim .ownership (round + k) L .1 (b, entered, fits))) ∙ is-rest .none-before k less);
         at-most = rw (idle .1) at (rest-at-most t is-legal round);
       }
     where

@@ -1,5 +1,6 @@
 -- Demand 3 of the program's own calls (document 01, The lists of demand 3): the lists that can be run, and the claim about each.
--- A call's answer and its plan are those that its contract allows (`Meets` of crate plan); the claim itself is `Demand3` of crate tree.
+-- A call's answer and its plan are those that its contract allows (`Meets` of crate plan); the claim itself is `Demand3` of crate tree. Then the rest of an
+-- idle round after such a list (document 02, Ask 4).
 -- Assumes nothing.
 use Prim.Native.Nat.{ℕ, _+_, _<_, _≤_}
 use mathlib.Core.Path.{_≡_}

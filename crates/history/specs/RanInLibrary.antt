@@ -51,7 +51,7 @@ OwnerOfLibrary =
     (round : ℕ) (r : ℤ) → r ≡ answer-number (owner-outcome round rows) →
     (L : ℕ) → ((r ≡ pos L) × (L ≤ 63)) ↔ ((b : Booking) × (ledger-of (entries-told calls) L ≡ some b) × RoundFits round b)
 
--- (Ask 4, 4) And where its number is 64 or more, what is above 64 is the rest.
+-- (Ask 4, 4) And where its number is 64 or more, that number less 64 is the rest.
 unfoldable pub RestOfLibrary : Type 0
 RestOfLibrary =
     (calls : List Answered) (rows : List ℕ) → RanInLibrary (replicate 1408 0) calls rows →

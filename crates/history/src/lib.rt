@@ -92,8 +92,8 @@ pub fn replay(calls: &[u64], answers: &mut [u64]) -> Replayed
     Replayed { count, plan }
 }
 
-// The owner of a round in the plan that the lent list leaves.
-// It is there for its contract, which states of the real calls what `owner-of-calls` states of their contracts.
+// The owner of a round, or its rest, in the plan that the lent list leaves.
+// It is there for its contract, which states of the real calls what `owner-of-calls` and `rest-of-calls` state of their contracts.
 pub fn replay_owner(calls: &[u64], answers: &mut [u64], round: u64) -> OwnerAnswer
     ensures { λ r. ⌜ ReplaysAndOwns (now (calls .entry)) (now (answers .entry)) (now (answers .exit)) round r ⌝ }
 {

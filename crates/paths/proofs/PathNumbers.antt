@@ -74,10 +74,10 @@ pub carried-start : (rows : List ℕ) (L : ℕ) → Carried rows L 1 0 0
 unfolding product sum sum-from
 carried-start rows L = record { within = zero-le; product-is = refl; sum-is = refl }
 
--- the start of a line is below its period; of a closed line they are 0 and 1
 edges-below : (rows : List ℕ) → legal rows ≡ true → (L : ℕ) → L < 64 → EdgesBelow (path-at rows L)
 edges-below rows is-legal L below = path-edges-below (path-at rows L) (legal-in-range rows is-legal L below)
 
+-- the start of a line is below its period; of a closed line they are 0 and 1
 pub path-start-below : (rows : List ℕ) → legal rows ≡ true → (L : ℕ) → L < 64 → sum (path-at rows L) < product (path-at rows L)
 path-start-below rows is-legal L below = sum-below (path-at rows L) (edges-below rows is-legal L below)
 

@@ -15,7 +15,7 @@ use tree::Row;
 use tree::Start;
 
 // The owner of a round: a line by its number or, where there is none, how many rounds lie from the round to the next
-// owned one. Only in the empty plan these are 0.
+// owned one. Only in the empty plan are these 0.
 pub enum OwnerAnswer {
     Line(u64),
     Idle(u16),

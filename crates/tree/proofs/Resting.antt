@@ -12,7 +12,7 @@ use Rattle.tree.specs.Search.{found, smallest}
 use Rattle.tree.specs.Tree.{Tree, nothing, present}
 use Rattle.tree.specs.Shape.{Legal}
 use Rattle.tree.specs.Asking.{owner, owned, rest, IsRest, owned-by, idle-for, or-rest, owner-or-rest}
-use Rattle.tree.proofs.Searching.{found-none, Smallest, smallest-some, smallest-none}
+use Rattle.tree.proofs.Searching.{Smallest, smallest-some, smallest-none}
 use Rattle.tree.proofs.Proper.{legal-proper}
 use Rattle.tree.proofs.Standing.{start-below-period}
 use Rattle.tree.proofs.Numbering.{stands-period}
@@ -32,9 +32,8 @@ next-fits q u n below =
 -- Two rests of a round are the same
 
 not-less : (n : ℕ) (t : Tree) (g h : ℕ) → present t ≡ true → IsRest n t g → IsRest n t h → h ≤ g
-unfolding owned found
 not-less n t g h here a b =
-    elim (decLt g h) [ yes less ↦ absurd (false≢true (sym (ap found (b .none-before g less)) ∙ a .next-owned here)) | no more ↦ omega arith ]
+    elim (decLt g h) [ yes less ↦ absurd (false≢true (sym (b .none-before g less) ∙ a .next-owned here)) | no more ↦ omega arith ]
 
 pub one-rest : (n : ℕ) (t : Tree) (g h : ℕ) → IsRest n t g → IsRest n t h → g ≡ h
 one-rest n t g h a b = by-test (present t) refl
@@ -72,7 +71,6 @@ module _ (t : Tree) (is-legal : Legal t) (n : ℕ) where
 
   -- (Ask 4, 2, 3) What `rest` gives is the rest.
   pub rest-is-rest : IsRest n t (rest n t)
-  unfolding owned
   rest-is-rest = by-test (present t) refl
     where
       by-test : (b : Bool) → present t ≡ b → IsRest n t (rest n t)
@@ -81,7 +79,7 @@ module _ (t : Tree) (is-legal : Legal t) (n : ℕ) where
           record {
             empty-plan = λ empty. absurd (true≢false (sym here ∙ empty));
             next-owned = λ here. least .passes;
-            none-before = λ k less. found-none (owner (n + k) t) (least .none-smaller k less);
+            none-before = least .none-smaller;
           }
       by-test false empty =
           let zero-rest = rest-empty empty in

@@ -22,7 +22,8 @@ unfoldable pub owned : ℕ → Tree → Bool
 owned n t = found (owner n t)
 
 -- (Ask 4, 2, 3) The rest of round n, how many rounds lie from it to the next owned one: 0 in the empty plan, else the smallest g for which round n + g has
--- an owner. Rounds are whole numbers, so that none is too large. A plan with a line has such a g below the longest period: `rest-is-rest`.
+-- an owner. Rounds are whole numbers, so that none is too large. A plan with a line has such a g below the longest period (`rest-is-rest`, `rest-at-most`).
+-- Of an owned round it is 0, which is answered to nobody.
 unfoldable pub rest : ℕ → Tree → ℕ
 rest n t = if present t then Option·getD (smallest 4095 (λ g. owned (n + g) t)) 0 else 0
 
@@ -32,7 +33,7 @@ pub record IsRest (n : ℕ) (t : Tree) (g : ℕ) : Type 0 where
   pub empty-plan : present t ≡ false → g ≡ 0
   -- in every other the round after so many has an owner, and no round before that one
   pub next-owned : present t ≡ true → owned (n + g) t ≡ true
-  pub none-before : (k : ℕ) → k < g → owner (n + k) t ≡ none
+  pub none-before : (k : ℕ) → k < g → owned (n + k) t ≡ false
 
 -- (Asking the plan, 1; Ask 4, 2) What owner answers of a round: the line that owns it, or that it is idle, with its rest.
 pub data OwnerOrRest : Type 0 where

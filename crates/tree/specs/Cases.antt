@@ -230,7 +230,8 @@ two-edges-in-a-class =
     ∷ nodes-in-all 2
     ∷ []
 
--- ours: rests. In the empty plan; up to the longest, before the next owned round past 2^64 and before the next turn of either line, whichever comes first.
+-- ours: rests. The empty plan; one line, with the longest rest, the shortest, and one that ends past 2^64; two lines, where the turn that comes first ends it,
+-- whichever line's it is.
 unfoldable pub rests : List Step
 rests =
     owner-of 7 (idle-for 0)
