@@ -44,11 +44,11 @@ module _ (ps : List Row) (n least : ℕ) (there : no-rows ps ≡ false) {p s u :
   turn-of-path : u ≡ until-turn (product ps) (sum ps) n
   turn-of-path = rw (← period-is, ← start-is) turn-is
 
-  pub nearer-this : u < least → nearer-turn ps n least ≡ u
-  nearer-this nearer = omega (arith, turn-of-path, nearer-open ps n least there)
-
-  pub nearer-earlier : least ≤ u → nearer-turn ps n least ≡ least
+  pub nearer-earlier : least < u → nearer-turn ps n least ≡ least
   nearer-earlier farther = omega (arith, turn-of-path, nearer-open ps n least there)
+
+  pub nearer-this : u ≤ least → nearer-turn ps n least ≡ u
+  nearer-this nearer = omega (arith, turn-of-path, nearer-open ps n least there)
 
 -- the rounds from n to the next turn of line M
 abbrev until : List ℕ → ℕ → ℕ → ℕ

@@ -18,10 +18,10 @@ fn nearer_turn(rows: &[u16; 1408], line: usize, round: u64, least: u64) -> u64
         return least;
     }
     let until = until_turn(times_of(rows, line), round);
-    if until < least {
-        return until;
+    if least < until {
+        return least;
     }
-    least
+    until
 }
 
 // The rest of a round, 0 in the empty plan. Every turn is less than 4,095 rounds away, so that this number stands for none

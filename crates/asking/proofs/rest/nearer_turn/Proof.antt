@@ -3,7 +3,7 @@
 use mathlib.Core.Path.{sym, _∙_}
 use borrow.Author.Needs.{needs}
 use Rattle.paths.proofs.PathNumbers.{path-start-below}
-use Rattle.asking.proofs.NearestTurn.{nearer-closed, nearer-this, nearer-earlier}
+use Rattle.asking.proofs.NearestTurn.{nearer-closed, nearer-earlier, nearer-this}
 use Rattle.asking.proofs.rest.nearer_turn.Statement.{statement}
 use Rattle.asking.proofs.rest.nearer_turn.Tie as tie
 
@@ -25,13 +25,13 @@ returns-2 : tie.Need-returns-2
 returns-2 c =
     let timed = c .before .before in
     let is-there = sym (timed .before .before .is-closed .ensures) ∙ timed .before .if1 .left in
-    sym (nearer-this _ _ _ is-there (timed .times-of .ensures .0) (timed .times-of .ensures .1) (c .before .until-turn .ensures) (c .if2 .taken))
+    sym (nearer-earlier _ _ _ is-there (timed .times-of .ensures .0) (timed .times-of .ensures .1) (c .before .until-turn .ensures) (c .if2 .taken))
 
 returns-3 : tie.Need-returns-3
 returns-3 c =
     let timed = c .before .before in
     let is-there = sym (timed .before .before .is-closed .ensures) ∙ timed .before .if1 .left in
-    sym (nearer-earlier _ _ _ is-there (timed .times-of .ensures .0) (timed .times-of .ensures .1) (c .before .until-turn .ensures) (c .if2 .left))
+    sym (nearer-this _ _ _ is-there (timed .times-of .ensures .0) (timed .times-of .ensures .1) (c .before .until-turn .ensures) (c .if2 .left))
 
 pub nearer-turn-spec : {M : Type 1} → statement M
 nearer-turn-spec =
