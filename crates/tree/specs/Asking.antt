@@ -17,36 +17,6 @@ owner t nothing = none
 owner t (line n) = some n
 owner t (node w f) = owner (t / w) (f (t % w))
 
--- (Ask 4, 2) Round n has an owner.
-unfoldable pub owned : ℕ → Tree → Bool
-owned n t = found (owner n t)
-
--- (Ask 4, 2, 3) The rest of round n, how many rounds lie from it to the next owned one: 0 in the empty plan, else the smallest g for which round n + g has
--- an owner. Rounds are whole numbers, so that none is too large. A plan with a line has such a g below the longest period (`rest-is-rest`, `rest-at-most`).
--- Of an owned round it is 0, which is answered to nobody.
-unfoldable pub rest : ℕ → Tree → ℕ
-rest n t = if present t then Option·getD (smallest 4095 (λ g. owned (n + g) t)) 0 else 0
-
--- (Ask 4, 2, 3) What the rest g of round n has to be, over every whole number.
-pub record IsRest (n : ℕ) (t : Tree) (g : ℕ) : Type 0 where
-  -- 0 in the empty plan
-  pub empty-plan : present t ≡ false → g ≡ 0
-  -- in every other the round after so many has an owner, and no round before that one
-  pub next-owned : present t ≡ true → owned (n + g) t ≡ true
-  pub none-before : (k : ℕ) → k < g → owned (n + k) t ≡ false
-
--- (Asking the plan, 1; Ask 4, 2) What owner answers of a round: the line that owns it, or that it is idle, with its rest.
-pub data OwnerOrRest : Type 0 where
-  owned-by : ℕ → OwnerOrRest
-  idle-for : ℕ → OwnerOrRest
-
-unfoldable pub or-rest : Option ℕ → ℕ → OwnerOrRest
-or-rest (some L) g = owned-by L
-or-rest none g = idle-for g
-
-unfoldable pub owner-or-rest : ℕ → Tree → OwnerOrRest
-owner-or-rest n t = or-rest (owner n t) (rest n t)
-
 -- (Asking the plan, 1) The rows of that walk: the weight of each node passed, and the edge selected there.
 unfoldable pub walked : ℕ → Tree → List Row
 walked t nothing = []
@@ -86,3 +56,33 @@ owns L n t = is-line L (owner n t)
 -- (Ask 1, 2, 3) Turns: how many rounds line L owns among N that begin with a. They are whole numbers, so that none is too large.
 unfoldable pub turns : ℕ → ℕ → ℕ → Tree → ℕ
 turns L a N t = count-below N (λ i. owns L (a + i) t)
+
+-- (Ask 4, 2) Round n has an owner.
+unfoldable pub owned : ℕ → Tree → Bool
+owned n t = found (owner n t)
+
+-- (Ask 4, 2, 3) The rest of round n, how many rounds lie from it to the next owned one: 0 in the empty plan, else the smallest g for which round n + g has
+-- an owner. Rounds are whole numbers, so that none is too large. A plan with a line has such a g below the longest period (`rest-is-rest`, `rest-at-most`).
+-- Of an owned round it is 0, which is answered to nobody.
+unfoldable pub rest : ℕ → Tree → ℕ
+rest n t = if present t then Option·getD (smallest 4095 (λ g. owned (n + g) t)) 0 else 0
+
+-- (Ask 4, 2, 3) What the rest g of round n has to be, over every whole number.
+pub record IsRest (n : ℕ) (t : Tree) (g : ℕ) : Type 0 where
+  -- 0 in the empty plan
+  pub empty-plan : present t ≡ false → g ≡ 0
+  -- in every other the round after so many has an owner, and no round before that one
+  pub next-owned : present t ≡ true → owned (n + g) t ≡ true
+  pub none-before : (k : ℕ) → k < g → owned (n + k) t ≡ false
+
+-- (Asking the plan, 1; Ask 4, 2) What owner answers of a round: the line that owns it, or that it is idle, with its rest.
+pub data OwnerOrRest : Type 0 where
+  owned-by : ℕ → OwnerOrRest
+  idle-for : ℕ → OwnerOrRest
+
+unfoldable pub or-rest : Option ℕ → ℕ → OwnerOrRest
+or-rest (some L) g = owned-by L
+or-rest none g = idle-for g
+
+unfoldable pub owner-or-rest : ℕ → Tree → OwnerOrRest
+owner-or-rest n t = or-rest (owner n t) (rest n t)
