@@ -33,6 +33,8 @@ pub mod Trials
 pub mod Numbering
 -- The rest
 pub mod Resting
+-- The sheet
+pub mod Sheets
 -- Demand 3
 pub mod Checks
 pub mod Agreement

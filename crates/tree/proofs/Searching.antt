@@ -1,14 +1,18 @@
--- Laws of the searches below a bound (specs/Search.antt).
+-- Laws of the searches and lists below a bound (specs/Search.antt).
 -- Assumes nothing.
-use Prim.Native.Nat.{ℕ, zero, suc, _<_}
+use Prim.Native.Nat.{ℕ, zero, suc, _+_, _<_}
 use native.Mathlib.Omega.{arith}
 use native.Mathlib.Nat.{eq-or-lt-of-le, le-of-suc-le-suc}
+use native.Mathlib.Numerals.{add-one}
 use mathlib.Core.Path.{_≡_, refl, sym, _∙_, ap}
 use mathlib.Core.Logic.{_⊎_, inl, inr}
 use mathlib.Core.Bool.{Bool, true, false, not, true≢false, false≢true}
+use mathlib.Core.List.{[], _∷_}
 use mathlib.Core.Option.{Option, none, some, Option·some-ne-none, Option·none-ne-some}
+use lib.ListN.{length, getD, length-append, List·getD-append}
+use lib.Seq.{getD-at}
 use borrow.Author.Tests.{not-true, not-false}
-use Rattle.tree.specs.Search.{if_then_else_, found, or-else, first, smallest, some-below, all-below}
+use Rattle.tree.specs.Search.{if_then_else_, found, or-else, first, each-below, smallest, some-below, all-below}
 
 -- what is below suc n is n or below n
 pub last-or-below : (i n : ℕ) → i < suc n → (i ≡ n) ⊎ (i < n)
@@ -141,3 +145,20 @@ all-below-at n test h i below = not-false (test i) (some-below-false n _ (not-tr
 pub all-below-each : (n : ℕ) (test : ℕ → Bool) → ((i : ℕ) → i < n → test i ≡ true) → all-below n test ≡ true
 unfolding all-below
 all-below-each n test h = ap not (some-below-none n _ (λ i below. ap not (h i below)))
+
+-- A list of what each number has
+
+module _ {A : Type 0} where
+  pub each-below-length : (n : ℕ) (what : ℕ → A) → length (each-below n what) ≡ n
+  unfolding each-below
+  each-below-length zero what = refl
+  each-below-length (suc n) what = length-append (each-below n what) (what n ∷ []) ∙ ap (λ (k : ℕ). k + 1) (each-below-length n what) ∙ add-one n
+
+  pub each-below-at : (n : ℕ) (what : ℕ → A) (i : ℕ) (d : A) → i < n → getD (each-below n what) i d ≡ what i
+  unfolding each-below
+  each-below-at zero what i d below = absurd (omega arith)
+  each-below-at (suc n) what i d below =
+      elim (last-or-below i n below) [
+        | inl e ↦ rw e (getD-at (each-below n what) (what n) [] d n (each-below-length n what))
+        | inr earlier ↦ List·getD-append (each-below n what) (what n ∷ []) d i (omega (arith, each-below-length n what)) ∙ each-below-at n what i d earlier
+      ]

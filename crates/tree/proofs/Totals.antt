@@ -4,7 +4,7 @@ use Prim.Native.Nat.{ℕ, zero, suc, _+_, _*_, _<_, _≤_}
 use native.Mathlib.Omega.{arith}
 use native.Mathlib.Nat.{suc-mul, add-zero, add-suc, add-comm, mul-zero, mul-suc}
 use native.Mathlib.Decide.{ℕ-discrete}
-use mathlib.Core.Path.{_≡_, refl, sym, ap}
+use mathlib.Core.Path.{_≡_, refl, sym, _∙_, ap}
 use mathlib.Core.Logic.{inl, inr}
 use mathlib.Core.Bool.{Bool, true, false, _||_, or-false}
 use lib.Dec.{eqb}
@@ -48,6 +48,12 @@ pub total-plus : (n : ℕ) (a b : ℕ → ℕ) → total-below n (λ i. a i + b 
 unfolding total-below
 total-plus zero a b = refl
 total-plus (suc n) a b = omega (arith, total-plus n a b)
+
+-- where each number counts 1
+pub total-ones : (n : ℕ) (count : ℕ → ℕ) → ((i : ℕ) → count i ≡ 1) → total-below n count ≡ n
+unfolding total-below
+total-ones zero count h = refl
+total-ones (suc n) count h = omega (arith, total-ones n count h, h n)
 
 -- where each number counts the same
 pub total-same : (n : ℕ) (a b : ℕ → ℕ) → ((i : ℕ) → i < n → a i ≡ b i) → total-below n a ≡ total-below n b
@@ -116,3 +122,7 @@ count-one-more n test k below fails =
     let old-k : old k ≡ 0 = rw fails in
     let new-k : new k ≡ 1 = rw (fails, eq-eqb k k refl) in
     omega (arith, total-change n old new k below (λ i other. rw (ne-eqb k i (λ same. other (sym same)), or-false)))
+
+-- a test that one number passes
+pub count-only : (n k : ℕ) → k < n → count-below n (eqb k) ≡ 1
+count-only n k below = count-one-more n (λ i. false) k below refl ∙ ap suc (count-none n (λ i. false) (λ i. refl))

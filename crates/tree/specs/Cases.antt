@@ -1,13 +1,15 @@
--- The joint table: document 01's marked cases A to I, without the printing, as calls with the answers that it marks; then eight cases of our own.
+-- The joint table: document 01's marked cases A to I, without the printing, as calls with the answers that it marks; then nine cases of our own.
 -- Each case begins at the empty plan. The one proof over the whole table is in proofs/JointTable.antt.
 -- Assumes nothing.
 use Prim.Native.Nat.{ℕ}
 use mathlib.Core.Bool.{Bool, true, false}
 use mathlib.Core.List.{List, [], _∷_, _++_}
-use lib.ListN.{length}
+use lib.ListN.{length, take, replicate}
 use Rattle.tree.specs.declared.Row.{Row}
+use Rattle.tree.specs.declared.Sheet.{Sheet}
 use Rattle.tree.specs.Tree.{Tree, row, path-of, nodes}
 use Rattle.tree.specs.Asking.{OwnerOrRest, owned-by, idle-for, owner-or-rest, rows-11, Shown}
+use Rattle.tree.specs.Sheet.{sheet}
 use Rattle.tree.specs.Calls.{open-line, close-line, Answer, booked, done, refused, answer, after, Outcome, gives, refuses, show-outcome, turns-outcome}
 use Rattle.tree.specs.Trial.{Trial, trial-outcome}
 
@@ -21,6 +23,7 @@ pub data Step : Type 0 where
   nodes-above : ℕ → ℕ → Step
   nodes-in-all : ℕ → Step
   tries : ℕ → ℕ → Outcome Trial → Step
+  sheet-of : ℕ → ℕ → Sheet → Step
 
 -- the same call or question, with the answer that the definitions give in tree t
 unfoldable pub answered : Tree → Step → Step
@@ -32,6 +35,7 @@ answered t (turns-of L first N a) = turns-of L first N (turns-outcome L first N 
 answered t (nodes-above L a) = nodes-above L (length (path-of L t))
 answered t (nodes-in-all a) = nodes-in-all (nodes t)
 answered t (tries L p a) = tries L p (trial-outcome L p t)
+answered t (sheet-of first N a) = sheet-of first N (sheet first N t)
 
 -- the tree that it leaves
 unfoldable pub next : Tree → Step → Tree
@@ -43,6 +47,7 @@ next t (turns-of L first N a) = t
 next t (nodes-above L a) = t
 next t (nodes-in-all a) = t
 next t (tries L p a) = t
+next t (sheet-of first N a) = t
 
 -- a whole case answered by the definitions, from tree t
 unfoldable pub replayed : Tree → List Step → List Step
@@ -61,6 +66,10 @@ shows p s rs = gives (record { period = p; start = s; rows = rows-11 rs })
 -- what a trial tells of an open that is not refused
 unfoldable pub fits : ℕ → ℕ → Bool → Outcome Trial
 fits s n is-split = gives (record { start = s; added = n; split = is-split })
+
+-- a sheet: the turns of the lines from 0 on, of all further lines 0, and the idle rounds
+unfoldable pub lists : List ℕ → ℕ → Sheet
+lists turns idle = record { turns = take 64 (turns ++ replicate 64 0); idle = idle }
 
 unfoldable pub bookings-A : List Step
 bookings-A =
@@ -246,6 +255,25 @@ rests =
     ∷ owner-of 4096 (idle-for 3)
     ∷ []
 
+-- ours: sheets. The empty plan; case A's plan, over 24 rounds, over none, over one, and over five of which four are past 2^64; the same after a close, when that
+-- line's turns are idle; a line that owns every round.
+unfoldable pub sheets : List Step
+sheets =
+    sheet-of 7 5 (lists [] 5)
+    ∷ (bookings-A
+    ++ (sheet-of 0 24 (lists (0 ∷ 6 ∷ 4 ∷ 3 ∷ 2 ∷ []) 9)
+    ∷ sheet-of 3 0 (lists [] 0)
+    ∷ sheet-of 3 1 (lists (0 ∷ 0 ∷ 0 ∷ 0 ∷ 1 ∷ []) 0)
+    ∷ sheet-of 18446744073709551615 5 (lists (0 ∷ 1 ∷ 1 ∷ 1 ∷ 1 ∷ []) 1)
+    ∷ closes 1 done
+    ∷ sheet-of 0 24 (lists (0 ∷ 0 ∷ 4 ∷ 3 ∷ 2 ∷ []) 15)
+    ∷ closes 2 done
+    ∷ closes 3 done
+    ∷ closes 4 done
+    ∷ opens 0 1 (booked 0)
+    ∷ sheet-of 18446744073709551615 9 (lists (9 ∷ []) 0)
+    ∷ []))
+
 unfoldable pub cases : List (List Step)
 cases =
     case-A
@@ -265,4 +293,5 @@ cases =
     ∷ tried-then-opened
     ∷ two-edges-in-a-class
     ∷ rests
+    ∷ sheets
     ∷ []

@@ -1,7 +1,8 @@
--- Choices by a test, and searches and sums below a bound, from 0 upward.
+-- Choices by a test, and searches, lists and sums below a bound, from 0 upward.
 -- Assumes nothing.
 use Prim.Native.Nat.{ℕ, zero, suc, _+_}
 use mathlib.Core.Bool.{Bool, true, false, not}
+use mathlib.Core.List.{List, [], _∷_, _++_}
 use mathlib.Core.Option.{Option, none, some}
 
 module _ {A : Type 0} where
@@ -23,6 +24,11 @@ module _ {A : Type 0} where
   unfoldable pub first : ℕ → (ℕ → Option A) → Option A
   first zero offer = none
   first (suc n) offer = or-else (first n offer) (offer n)
+
+  -- what each number below n has, in a list
+  unfoldable pub each-below : ℕ → (ℕ → A) → List A
+  each-below zero what = []
+  each-below (suc n) what = each-below n what ++ (what n ∷ [])
 
 -- the smallest number below n that passes the test
 unfoldable pub smallest : ℕ → (ℕ → Bool) → Option ℕ

@@ -21,6 +21,12 @@ pub struct Plan {
     pub rows: [u16; 1408],
 }
 
+// A beamtime sheet (document 02, Ask 5): the turns of each of the 64 lines, 0 for a closed one, and the idle rounds.
+pub struct Sheet {
+    pub turns: [u16; 64],
+    pub idle: u16,
+}
+
 // A period of any size as open and packing take it: all above 4,095 are refused alike, so 4,096 stands for them.
 pub fn period_asked(period: u64) -> Period
     ensures { λ r. ⌜ r .0 ≡ (if ltb 4095 period then 4096 else period) ⌝ }
