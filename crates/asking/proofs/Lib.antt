@@ -7,5 +7,7 @@ pub mod Visiting
 pub mod ElevenRows
 -- Turns
 pub mod TurnsByDivision
+-- The figures of a sheet
+pub mod SheetFigures
 -- The rest of a round
 pub mod NearestTurn

@@ -5,17 +5,21 @@ use native.Mathlib.Omega.{arith}
 use native.Mathlib.Nat.{mod-add-div, mod-lt, mod-eq-of-lt, mod-add-mod, add-mod-mod, add-mod-right, add-mul-mod-self-left, add-mul-div-left, add-div-right, div-eq-of-lt, div-eq-of-lt-le}
 use native.Mathlib.Decide.{decLt}
 use mathlib.Core.Path.{_≡_, refl, sym, _∙_, ap}
-use mathlib.Core.Bool.{Bool, true, false}
+use mathlib.Core.Bool.{Bool, true, false, not}
+use mathlib.Core.List.{List}
 use lib.Dec.{eqb, ltb}
 use borrow.Author.Tests.{eqb-true, eqb-false, eq-eqb, ne-eqb, lt-ltb, le-ltb}
 use Rattle.tree.specs.Search.{if_then_else_, total-below, count-below}
-use Rattle.tree.specs.Tree.{Tree, is-open, period-of, start-of}
+use Rattle.tree.specs.Tree.{Tree, product, sum, is-open, period-of, start-of}
 use Rattle.tree.specs.Shape.{Legal}
 use Rattle.tree.specs.Asking.{turns}
+use Rattle.tree.specs.Record.{path-at, no-rows, legal}
+use Rattle.bridge.specs.Rows.{tree-of}
 use Rattle.tree.proofs.Proper.{legal-proper}
 use Rattle.tree.proofs.Standing.{open-stands, start-below-period}
 use Rattle.tree.proofs.Ownership.{owns-by-times}
 use Rattle.tree.proofs.Resting.{next-fits}
+use Rattle.bridge.proofs.TreeOfRecord.{legal-on-record, paths-on-record, open-on-record}
 use Rattle.asking.specs.Turns.{until-turn, turns-by-times}
 
 -- The numbers i below N with i mod q = u: as many as q goes into N + (q - 1 - u)
@@ -129,3 +133,11 @@ turns-by-division t is-legal L there a N =
     let stands = open-stands L t there in
     (λ k. count-below N (λ i. owns-by-times L (a + i) t _ _ (legal-proper t is-legal) stands k))
     ∙ fitting-by-division _ _ (start-below-period L t _ _ stands) a N
+
+-- of a line of a legal record, by the product and the sum of its path
+pub turns-on-record : (rows : List ℕ) → legal rows ≡ true → (L : ℕ) → L < 64 → no-rows (path-at rows L) ≡ false → (a N : ℕ) →
+    turns L a N (tree-of rows) ≡ turns-by-times (product (path-at rows L)) (sum (path-at rows L)) a N
+unfolding period-of start-of
+turns-on-record rows is-legal L below there a N =
+    rw (← paths-on-record rows is-legal L below) at
+    (turns-by-division (tree-of rows) (legal-on-record rows) L (open-on-record rows is-legal L below ∙ ap not there) a N)

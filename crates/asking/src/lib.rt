@@ -1,7 +1,8 @@
-// Asking the plan: what owner, show and turns read from the lent array of a plan record; the rest of an idle round in `rest`.
+// Asking the plan: what owner, show and turns read from the lent array of a plan record; the rest of an idle round in `rest`,
+// the figures of a sheet in `sheet`.
 ghost use mathlib.Core.Path.{_≡_};
 ghost use mathlib.Core.Bool.{true};
-ghost use Prim.Native.Nat.{suc, _/_, _<_};
+ghost use Prim.Native.Nat.{suc, _+_, _/_, _%_, _^_, _<_};
 ghost use lib.Dec.{eqb};
 ghost use lib.ListN.{length};
 ghost use Rattle.tree.specs.Tree.{product, sum};
@@ -17,6 +18,7 @@ use tree::Row;
 use tree::Start;
 
 pub mod rest;
+pub mod sheet;
 
 // A line that goes through a node, by its number.
 pub enum Through {
@@ -87,18 +89,35 @@ fn ends_below(rows: &[u16; 1408], line: usize, level: usize) -> bool
     paths::weight(rows, line, level + 1) == 0
 }
 
-// The walk for a round, from the node at a level of a line's path to the child that the round selects, through at most `left`
-// nodes. It carries the step of the node that it visits.
-fn walk(rows: &[u16; 1408], line: usize, level: usize, left: usize, step: u64, round: u64) -> Owner
-    requires { ⌜ Visits (tree-of (now rows)) line level step round ⌝ }
-    ensures { λ r. ⌜ owner-answered r ≡ walk-on-paths (path-at (now (rows .entry))) left line level (round / step) ⌝ }
+// What the round that comes so many after another leaves, divided by a number. It may be past 2^64: of the first round only the
+// remainder enters the sum.
+fn remainder_ahead(round: u64, ahead: u16, divisor: u64) -> u64
+    requires { ⌜ (0 < divisor) × (divisor < 2 ^ 32) ⌝ }
+    ensures { λ r. ⌜ r ≡ (round + ahead) % divisor ⌝ }
+{
+    let passed = round % divisor;
+    (passed + ahead as u64) % divisor
+}
+
+// The walk for the round that comes so many after `round`, from the node at a level of a line's path to the child that the round
+// selects, through at most `left` nodes. It carries the step of the node that it visits.
+fn walk(
+    rows: &[u16; 1408],
+    line: usize,
+    level: usize,
+    left: usize,
+    step: u64,
+    round: u64,
+    ahead: u16,
+) -> Owner
+    requires { ⌜ Visits (tree-of (now rows)) line level step (round + ahead) ⌝ }
+    ensures { λ r. ⌜ owner-answered r ≡ walk-on-paths (path-at (now (rows .entry))) left line level ((round + ahead) / step) ⌝ }
 {
     if left == 0 {
         return Owner::Idle;
     }
-    let w = paths::weight(rows, line, level) as u64;
-    let quotient = round / step;
-    let edge = quotient % w;
+    let child_step = step * paths::weight(rows, line, level) as u64;
+    let edge = remainder_ahead(round, ahead, child_step) / step;
     let under = line_under(rows, line, level, edge as u16);
     let Through::Line(next) = under else {
         return Owner::Idle;
@@ -106,19 +125,19 @@ fn walk(rows: &[u16; 1408], line: usize, level: usize, left: usize, step: u64, r
     if ends_below(rows, next, level) {
         return Owner::Line(next);
     }
-    walk(rows, next, level + 1, left - 1, step * w, round)
+    walk(rows, next, level + 1, left - 1, child_step, round, ahead)
 }
 
-// The owner of a round: the walk goes down from the root, whose step is 1. An empty plan is idle.
-pub fn owner_of(rows: &[u16; 1408], round: u64) -> Owner
+// The owner of the round that comes so many after another: the walk goes down from the root, whose step is 1. An empty plan is idle.
+pub fn owner_of(rows: &[u16; 1408], round: u64, ahead: u16) -> Owner
     requires { ⌜ legal (now rows) ≡ true ⌝ }
-    ensures { λ r. ⌜ owner-answered r ≡ owner-on-paths (path-at (now (rows .entry))) round ⌝ }
+    ensures { λ r. ⌜ owner-answered r ≡ owner-on-paths (path-at (now (rows .entry))) (round + ahead) ⌝ }
 {
     let open = first_open(rows);
     let Through::Line(line) = open else {
         return Owner::Idle;
     };
-    walk(rows, line, 0, 11, 1, round)
+    walk(rows, line, 0, 11, 1, round, ahead)
 }
 
 // The period and the start of an open line. Of a closed line they are 1 and 0.

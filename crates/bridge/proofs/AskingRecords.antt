@@ -39,7 +39,7 @@ module _ (rows : List ℕ) where
   -- A record that is no tree
 
   module _ (illegal : legal rows ≡ false) where
-    empty-on-illegal : tree-of rows ≡ nothing
+    pub empty-on-illegal : tree-of rows ≡ nothing
     unfolding tree-of
     empty-on-illegal = treeOf-illegal (record { rows = rows }) illegal
 

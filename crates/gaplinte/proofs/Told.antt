@@ -21,6 +21,7 @@ use Rattle.tree.specs.Calls.{Call, open-line, close-line, refusal, reply, answe
 use Rattle.tree.specs.Trial.{trial-outcome}
 use Rattle.tree.specs.Record.{legal}
 use Rattle.tree.proofs.Standing.{start-below-period}
+use Rattle.tree.proofs.Ownership.{turns-at-most}
 use Rattle.tree.proofs.Checks.{open-may}
 use Rattle.tree.proofs.Opening.{opened-new}
 use Rattle.bridge.specs.Rows.{tree-of}
@@ -35,7 +36,7 @@ use Rattle.lists.proofs.AnswersFit.{Small, small-if, refusal-small, reading-sma
 use Rattle.gaplinte.specs.Answer.{answer-number, zero-value, outcome-told, InRange, Tells, narrowed}
 use Rattle.gaplinte.specs.Served.{change-outcome, ChangeServed, owner-value, owner-outcome, tree-outcome, ShowServed, TrialServed, walk-value, place-of, WalkServed, list-outcome, ListServed}
 use Rattle.gaplinte.specs.OrdersServed.{bytes-in, PackServed, ReadServed}
-use Rattle.gaplinte.proofs.ValuesBelow.{owner-at-most, turns-at-most}
+use Rattle.gaplinte.proofs.ValuesBelow.{owner-at-most}
 
 -- An outcome in range is told
 

@@ -8,14 +8,12 @@ use mathlib.Core.Option.{Option, none, some}
 use Rattle.tree.specs.Search.{if_then_else_}
 use Rattle.tree.specs.Tree.{Tree}
 use Rattle.tree.specs.Shape.{Legal}
-use Rattle.tree.specs.Asking.{owner, rest, OwnerOrRest, or-rest, owner-or-rest, owns, turns}
+use Rattle.tree.specs.Asking.{owner, rest, OwnerOrRest, or-rest, owner-or-rest, turns}
 use Rattle.tree.specs.Refusals.{line-refusal}
 use Rattle.tree.specs.Calls.{Call, gives, refuses, gives-unless, turns-outcome}
-use Rattle.tree.proofs.Proper.{legal-proper}
-use Rattle.tree.proofs.Numbering.{stands-number}
-use Rattle.tree.proofs.Ownership.{walk-owns}
+use Rattle.tree.proofs.Ownership.{turns-at-most}
+use Rattle.tree.proofs.Numbering.{owner-below-64}
 use Rattle.tree.proofs.Resting.{rest-at-most}
-use Rattle.tree.proofs.Totals.{count-at-most}
 use Rattle.plan.specs.declared.walker.WalkerPlace.{WalkerPlace}
 use Rattle.plan.specs.Walker.{at-end, walk-outcome}
 use Rattle.orders.specs.Order.{kind, line, period}
@@ -28,13 +26,6 @@ given-value : {A : Type 0} (refusal : Option ℕ) (a b : A) → gives b ≡ give
 unfolding gives-unless
 given-value none a b given = cc
 given-value (some n) a b given = let z : _≡_ {A = ℕ} 0 1 = cc in absurd (omega arith)
-
--- an owner is a line
-pub owner-below-64 : (round : ℕ) (t : Tree) (L : ℕ) → Legal t → owner round t ≡ some L → L < 64
-owner-below-64 round t L is-legal owned =
-    let owns = walk-owns L round t (legal-proper t is-legal) owned in
-    let number = stands-number L t (owns .period) (owns .start) is-legal (owns .stands) in
-    omega arith
 
 -- the value of owner and of the walker is a line, or 64 and a rest of at most 4,094
 pub owner-at-most : (round : ℕ) (t : Tree) → Legal t → owner-value (owner-or-rest round t) ≤ 4158
@@ -55,11 +46,6 @@ walk-given place t o is-legal = by-end (at-end place)
     by-end : (ended : Bool) → gives o ≡ (if ended then refuses 9 else gives (owner-or-rest (place .next) t)) → owner-value o ≤ 4158
     by-end true walked = let z : _≡_ {A = ℕ} 0 1 = cc in absurd (omega arith)
     by-end false walked = owner-given (place .next) t o is-legal cc
-
--- a line has at most as many turns as there are rounds
-pub turns-at-most : (L a N : ℕ) (t : Tree) → turns L a N t ≤ N
-unfolding turns
-turns-at-most L a N t = count-at-most N (λ i. owns L (a + i) t)
 
 pub turns-given : (L a N : ℕ) (t : Tree) (n : ℕ) → gives n ≡ turns-outcome L a N t → n ≤ N
 unfolding turns-outcome

@@ -12,6 +12,7 @@ use Rattle.tree.specs.declared.Plan.{Plan}
 use Rattle.tree.specs.Tree.{Tree}
 use Rattle.tree.specs.Asking.{OwnerOrRest, owned-by, idle-for, owner-or-rest}
 use Rattle.tree.specs.Calls.{Call, open-line, close-line, refused, refusal, reply, answer-unless, answer, gives}
+use Rattle.tree.proofs.Numbering.{owner-below-64}
 use Rattle.tree.proofs.Resting.{owned-exactly}
 use Rattle.bridge.specs.Rows.{tree-of, CarriedOut}
 use Rattle.bridge.proofs.TreeOfRecord.{legal-on-record}
@@ -20,7 +21,6 @@ use Rattle.plan.proofs.Changes.{empty-rows}
 use Rattle.lists.proofs.AnswersFit.{Small, refusal-small}
 use Rattle.gaplinte.specs.Answer.{answer-number}
 use Rattle.gaplinte.specs.Served.{change-outcome, ChangeServed, owner-value, owner-outcome}
-use Rattle.gaplinte.proofs.ValuesBelow.{owner-below-64}
 use Rattle.history.specs.RanOnRows.{RanOnRows, Demand3OfRows}
 use Rattle.history.specs.RanInLibrary.{Answered, answer-told, entries-told, RanInLibrary, Demand3OfLibrary, OwnerOfLibrary, RestOfLibrary}
 use Rattle.history.proofs.Demand3OfRows.{demand-3-of-rows}

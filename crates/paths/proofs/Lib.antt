@@ -1,6 +1,8 @@
 -- Tests of every number below a bound, and searches for the smallest
 pub mod AllBelow
 pub mod NoneBelow
+-- An array filled from the front
+pub mod Filled
 -- Paths, read row by row
 pub mod PathRest
 pub mod PathRows

@@ -1,4 +1,4 @@
--- The ways that show and turns can go on a plan record.
+-- The ways that show and turns can go on a plan record, and the sheet of one that is no tree.
 -- Assumes nothing.
 use Prim.Native.Nat.{ℕ, _<_, _≤_}
 use native.Mathlib.Omega.{arith}
@@ -6,19 +6,21 @@ use mathlib.Core.Path.{_≡_, sym, _∙_, ap}
 use mathlib.Core.Bool.{true, false}
 use mathlib.Core.List.{List, []}
 use mathlib.Core.Logic.{⊎-elim}
+use lib.ListN.{replicate}
 use Rattle.tree.specs.declared.Period.{Period}
 use Rattle.tree.specs.declared.Start.{Start}
-use Rattle.tree.specs.Tree.{Tree, product, sum, period-of, start-of}
+use Rattle.tree.specs.Tree.{Tree, product, sum}
 use Rattle.tree.specs.Asking.{rows-11}
+use Rattle.tree.specs.Sheet.{sheet}
 use Rattle.tree.specs.Calls.{gives, refuses, show-outcome, turns-outcome}
 use Rattle.tree.specs.Record.{path-at, no-rows, legal}
+use Rattle.tree.proofs.Sheets.{sheet-of-empty}
 use Rattle.paths.specs.declared.Found.the-variants.{At, Nothing}
 use Rattle.paths.proofs.PathLength.{lookup-nothing, lookup-at}
 use Rattle.bridge.specs.Rows.{tree-of}
-use Rattle.bridge.proofs.TreeOfRecord.{legal-on-record, paths-on-record}
-use Rattle.bridge.proofs.AskingRecords.{shown-refused-1, shown-refused-4, shown-on-illegal, shown-on-record, turns-refused-1, turns-refused-4, turns-on-illegal, open-by-rows, turns-not-refused}
+use Rattle.bridge.proofs.AskingRecords.{shown-refused-1, shown-refused-4, shown-on-illegal, shown-on-record, turns-refused-1, turns-refused-4, turns-on-illegal, turns-not-refused, empty-on-illegal}
 use Rattle.asking.specs.Turns.{turns-by-times}
-use Rattle.asking.proofs.TurnsByDivision.{turns-by-division}
+use Rattle.asking.proofs.TurnsByDivision.{turns-on-record}
 use Rattle.plan.specs.declared.ask.ShowAnswer.the-variants.{Times, Refused}
 use Rattle.plan.specs.Lookup.{line-found}
 use Rattle.plan.specs.Ask.{show-answer, rows-beside, ShownAs}
@@ -63,7 +65,10 @@ module _ (rows : List ℕ) where
           record { answer-is = rw (period-is, start-is) (sym outcome); rows-are = sym (ap rows-beside outcome) }
 
       pub turns-found : (a N : ℕ) → turns-outcome L a N (tree-of rows) ≡ gives (turns-by-times (product (path-at rows L)) (sum (path-at rows L)) a N)
-      unfolding period-of start-of
       turns-found a N =
-          let by-division = turns-by-division (tree-of rows) (legal-on-record rows) L (open-by-rows rows found-legal L number false has-rows) a N in
-          turns-not-refused rows found-legal L number a N has-rows ∙ ap gives (rw (← paths-on-record rows found-legal L (omega arith)) at by-division)
+          turns-not-refused rows found-legal L number a N has-rows ∙ ap gives (turns-on-record rows found-legal L (omega arith) has-rows a N)
+
+-- The sheet of a record that is no tree
+
+pub sheet-on-illegal : (rows : List ℕ) → legal rows ≡ false → (a N : ℕ) → sheet a N (tree-of rows) ≡ record { turns = replicate 64 0; idle = N }
+sheet-on-illegal rows illegal a N = ap (sheet a N) (empty-on-illegal rows illegal) ∙ sheet-of-empty a N

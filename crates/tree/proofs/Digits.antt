@@ -1,7 +1,7 @@
 -- A number written to two bases, as e + w * s with e below w: its two digits, and which numbers leave it modulo w * p.
 -- Assumes nothing.
 use Prim.Native.Nat.{ℕ, _+_, _*_, _/_, _%_, _<_}
-use mathlib.Core.Path.{_≡_, _∙_}
+use mathlib.Core.Path.{_≡_, refl, _∙_}
 use mathlib.Core.Logic.{_↔_}
 use native.Mathlib.Nat.{add-mul-mod-self-left, add-mul-div-left, mod-eq-of-lt, div-eq-of-lt, mod-add-div, mod-lt, mul-comm}
 use native.Mathlib.Omega.{arith}
@@ -29,3 +29,9 @@ digit n w p e s h k = (λ q. digits-same w (n % w) (n / w % p) e s (mod-lt n (om
   where
     two : n % (w * p) ≡ n % w + w * (n / w % p)
     two = rw (mul-comm w p) (omega (arith, mod-mul n {m = p} {c = w} (omega arith) (omega arith), mul-comm (n / w % p) w))
+
+-- the higher digit of what n leaves modulo w * p
+pub digit-between : (n w p : ℕ) → 0 < w → 0 < p → n % (w * p) / w ≡ n / w % p
+digit-between n w p low high =
+    let below = mod-lt n low in
+    rw (digit n w p (n % w) (n / w % p) below (mod-lt (n / w) high) .1 (refl, refl)) (digit-high w (n % w) (n / w % p) below)

@@ -1,14 +1,18 @@
--- A line that stands in a legal tree has a number of at most 63 and a period of at most 4,095.
+-- A line that stands in a legal tree has a number of at most 63, so that an owner is one of the 64 lines, and a period of at most 4,095.
 -- Assumes nothing.
-use Prim.Native.Nat.{ℕ, _*_, _≤_}
+use Prim.Native.Nat.{ℕ, _*_, _<_, _≤_}
 use native.Mathlib.Omega.{arith}
 use native.Mathlib.Nat.{mul-one, one-mul, mul-assoc}
-use mathlib.Core.Path.{sym, subst}
+use mathlib.Core.Path.{_≡_, sym, subst}
 use mathlib.Core.Logic.{inl, inr}
+use mathlib.Core.Option.{some}
 use Rattle.tree.specs.Tree.{Tree, nothing, line, node}
 use Rattle.tree.specs.Standing.{Stands}
 use Rattle.tree.specs.Shape.{LegalUnder, Legal}
+use Rattle.tree.specs.Asking.{owner}
 use Rattle.tree.proofs.Put.{alone-line}
+use Rattle.tree.proofs.Proper.{legal-proper}
+use Rattle.tree.proofs.Ownership.{walk-owns}
 
 under-number : (L m : ℕ) (t : Tree) (q u : ℕ) → LegalUnder m t → Stands L t q u → L ≤ 63
 unfolding LegalUnder Stands
@@ -24,6 +28,10 @@ stands-number L (line n) q u legal h = absurd legal
 stands-number L (node w f) q u (inl legal) h = under-number L 1 (node w f) q u legal h
 stands-number L (node w f) q u (inr alone) h =
     subst (λ (k : ℕ). k ≤ 63) (sym (alone-line L (node w f) q u alone h .0)) (alone .number-in-range)
+
+-- an owner is one of the 64 lines
+pub owner-below-64 : (n : ℕ) (t : Tree) (L : ℕ) → Legal t → owner n t ≡ some L → L < 64
+owner-below-64 n t L is-legal named = omega (arith, stands-number L t _ _ is-legal (walk-owns L n t (legal-proper t is-legal) named .stands))
 
 under-period : (L m : ℕ) (t : Tree) (q u : ℕ) → LegalUnder m t → Stands L t q u → m * q ≤ 4095
 unfolding LegalUnder Stands

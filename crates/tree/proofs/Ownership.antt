@@ -1,6 +1,6 @@
 -- Ownership: the walk for a round finds line L exactly when L stands in the tree with a period and a start that the round fits.
 -- Assumes nothing.
-use Prim.Native.Nat.{ℕ, _+_, _*_, _/_, _%_}
+use Prim.Native.Nat.{ℕ, _+_, _*_, _/_, _%_, _≤_}
 use native.Mathlib.Nat.{mod-lt, mod-one}
 use mathlib.Core.Path.{_≡_, refl, sym, _∙_, ap}
 use mathlib.Core.Logic.{_↔_}
@@ -10,8 +10,9 @@ use lib.Dec.{eqb}
 use borrow.Author.Tests.{eqb-true, eqb-false, eq-eqb}
 use Rattle.tree.specs.Tree.{Tree, nothing, line, node}
 use Rattle.tree.specs.Standing.{Stands}
-use Rattle.tree.specs.Asking.{owner, is-line, owns}
+use Rattle.tree.specs.Asking.{owner, is-line, owns, turns}
 use Rattle.tree.proofs.Digits.{digit}
+use Rattle.tree.proofs.Totals.{count-at-most}
 use Rattle.tree.proofs.Proper.{Proper}
 use Rattle.tree.proofs.Standing.{start-below-period, stands-once}
 
@@ -67,7 +68,12 @@ no-two-owners L M n t a b =
     let by-M = stands-walk M n t (b .period) (b .start) (b .stands) (b .fits) in
     cc
 
--- The test that turns counts by
+-- Turns, and the test that they are counted by
+
+-- a line has at most as many turns as there are rounds
+pub turns-at-most : (L a N : ℕ) (t : Tree) → turns L a N t ≤ N
+unfolding turns
+turns-at-most L a N t = count-at-most N (λ i. owns L (a + i) t)
 
 pub owns-exactly : (L n : ℕ) (t : Tree) → (owns L n t ≡ true) ↔ (owner n t ≡ some L)
 unfolding owns is-line

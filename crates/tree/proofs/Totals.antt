@@ -3,6 +3,7 @@
 use Prim.Native.Nat.{ℕ, zero, suc, _+_, _*_, _<_, _≤_}
 use native.Mathlib.Omega.{arith}
 use native.Mathlib.Nat.{suc-mul, add-zero, add-suc, add-comm, mul-zero, mul-suc}
+use native.Mathlib.Numerals.{add-one}
 use native.Mathlib.Decide.{ℕ-discrete}
 use mathlib.Core.Path.{_≡_, refl, sym, _∙_, ap}
 use mathlib.Core.Logic.{inl, inr}
@@ -107,6 +108,16 @@ count-at-most n test = omega (arith, total-at-most n (λ i. if test i then 1 els
     at-most-1 : (b : Bool) → (if b then 1 else 0) ≤ 1
     at-most-1 true = omega arith
     at-most-1 false = omega arith
+
+-- one number more
+pub count-more : (n : ℕ) (test : ℕ → Bool) → count-below (n + 1) test ≡ count-below n test + (if test n then 1 else 0)
+unfolding count-below total-below
+count-more n test = rw add-one
+
+-- a test that every number passes
+pub count-all : (n : ℕ) (test : ℕ → Bool) → ((i : ℕ) → test i ≡ true) → count-below n test ≡ n
+unfolding count-below
+count-all n test passes = total-ones n (λ i. if test i then 1 else 0) (λ i. rw (passes i))
 
 -- a test that nothing passes
 pub count-none : (n : ℕ) (test : ℕ → Bool) → ((i : ℕ) → test i ≡ false) → count-below n test ≡ 0

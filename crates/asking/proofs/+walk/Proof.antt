@@ -1,8 +1,8 @@
 -- `asking::walk` meets its contract: the walk over the paths, one node at a time. The measure is how many nodes are left. That the child is visited too
 -- (`visits-child`) is what its call of itself requires.
 -- Assumes nothing.
-use Prim.Native.Nat.{ℕ, _*_, _/_, _%_, _^_, _<_, _≤_}
-use native.Mathlib.Nat.{mod-lt, le-of-lt, mul-le-mul, div-div-eq-div-mul}
+use Prim.Native.Nat.{ℕ, _+_, _*_, _/_, _%_, _^_, _<_, _≤_}
+use native.Mathlib.Nat.{mod-lt, le-of-lt, mul-pos, mul-comm, mul-le-mul, div-lt-iff-lt-mul, div-div-eq-div-mul}
 use native.Mathlib.Omega.{arith}
 use mathlib.Core.Path.{_≡_, sym, _∙_, ap}
 use mathlib.Core.Option.{some}
@@ -17,9 +17,11 @@ use Rattle.paths.proofs.weight.Reads as weight-reads
 use Rattle.tree.specs.Record.{path-at}
 use Rattle.paths.specs.Rules.{line-under, walk-on-paths}
 use Rattle.asking.specs.Answers.{line-through}
+use Rattle.tree.proofs.Digits.{digit-between}
 use Rattle.bridge.proofs.TreeOfRecord.{legal-on-record}
 use Rattle.asking.proofs.Walking.{line-under-within, weight-above-0, walk-over, walk-idle, walk-to-line, walk-to-node}
 use Rattle.asking.proofs.Visiting.{step-positive, visits-within, visits-child}
+use Rattle.asking.proofs.remainder_ahead.Reads as remainder-ahead-reads
 use Rattle.asking.proofs.line_under.Reads as line-under-reads
 use Rattle.asking.proofs.ends_below.Reads as ends-below-reads
 use Rattle.asking.proofs.walk.Reads as walk
@@ -43,6 +45,8 @@ abbrev callees : ℕ → walk-lts.Claims
 callees t = (
   weight-reads.Asked,
   weight-reads.Learnt,
+  remainder-ahead-reads.Asked,
+  remainder-ahead-reads.Learnt,
   line-under-reads.Asked,
   line-under-reads.Learnt,
   ends-below-reads.Asked,
@@ -51,15 +55,24 @@ callees t = (
   walk.Post,
 )
 
--- What follows up to `walk-line-under-requires` holds of the root's weight too, and of any remainder: so a version that reads that weight, or divides another
+-- What follows up to `walk-line-under-requires` holds of the root's weight too, and of any round: so a version that reads that weight, or divides another
 -- number, is refused for its answer.
 
--- the node visited is on the line's path, and the weight that was read is above 0
+-- the node visited is on the line's path; its step and the weight that was read are above 0, and their product is small
 on-path : (t : ℕ) (c : walk-lts.Start (callees t) (walk-at t) walk.Post) → c .args .level < length (path-at (now (c .args .rows)) (c .args .line))
 on-path t c = visits-within _ (c .pre .1) .2
 
+step-above-0 : (t : ℕ) (c : walk-lts.Start (callees t) (walk-at t) walk.Post) → 0 < c .args .step
+step-above-0 t c = step-positive _ (legal-on-record _) (c .pre .1)
+
 weight-positive : (t : ℕ) (c : walk-lts.After-weight (callees t) (walk-at t) walk.Post) → 0 < c .weight .result
 weight-positive t c = weight-above-0 _ _ (omega (arith, on-path t (c .before .before))) (c .weight .ensures)
+
+factors-below : (m w : ℕ) → m ≤ 2047 → w < 2 ^ 16 → m * w < 2 ^ 32
+factors-below m w step-small weight-small = omega (arith, mul-le-mul step-small (le-of-lt weight-small))
+
+child-step-below : (t : ℕ) (c : walk-lts.After-weight (callees t) (walk-at t) walk.Post) → c .before .before .args .step * c .weight .result < 2 ^ 32
+child-step-below t c = factors-below _ _ (c .before .before .pre .1 .step-at-most) (omega arith)
 
 walk-returns : (t : ℕ) → walk-lts.Need-returns (callees t) (walk-at t) walk.Post
 walk-returns t c = sym (walk-over _ _ _ _ _ (c .if1 .taken))
@@ -67,23 +80,40 @@ walk-returns t c = sym (walk-over _ _ _ _ _ (c .if1 .taken))
 walk-weight-requires : (t : ℕ) → walk-lts.Need-weight-requires (callees t) (walk-at t) walk.Post
 walk-weight-requires t c κs = (visits-within _ (c .before .pre .1) .1, omega (arith, within-path _ _ (on-path t (c .before))))
 
-walk-cast-w : (t : ℕ) → walk-lts.Need-cast-w (callees t) (walk-at t) walk.Post
-walk-cast-w t c = search needs
+walk-cast-child-step : (t : ℕ) → walk-lts.Need-cast-child-step (callees t) (walk-at t) walk.Post
+walk-cast-child-step t c = search needs
 
-walk-div-quotient : (t : ℕ) → walk-lts.Need-div-quotient (callees t) (walk-at t) walk.Post
-walk-div-quotient t c = step-positive _ (legal-on-record _) (c .before .before .pre .1)
+walk-mul-child-step : (t : ℕ) → walk-lts.Need-mul-child-step (callees t) (walk-at t) walk.Post
+walk-mul-child-step t c = fits-under w64 _ _ (child-step-below t c) tt
 
-walk-rem-edge : (t : ℕ) → walk-lts.Need-rem-edge (callees t) (walk-at t) walk.Post
-walk-rem-edge t c = weight-positive t c
+walk-remainder-ahead-requires : (t : ℕ) → walk-lts.Need-remainder-ahead-requires (callees t) (walk-at t) walk.Post
+walk-remainder-ahead-requires t c κs = (mul-pos (step-above-0 t (c .before .before)) (weight-positive t c), child-step-below t c)
 
-remainder-below : (n : ℕ) {w : ℕ} → 0 < w → w < 2 ^ 16 → n % w < 2 ^ 16
-remainder-below n positive small = omega (arith, mod-lt n positive)
+walk-div-edge : (t : ℕ) → walk-lts.Need-div-edge (callees t) (walk-at t) walk.Post
+walk-div-edge t c = step-above-0 t (c .before .before .before)
+
+edge-below : (n m w : ℕ) → 0 < m → 0 < w → w < 2 ^ 16 → n % (m * w) / m < 2 ^ 16
+edge-below n m w step-positive weight-positive small =
+    let in-product = mod-lt n (mul-pos step-positive weight-positive) in
+    let quotient-below = div-lt-iff-lt-mul {x = n % (m * w)} {y = w} step-positive .1 (omega (arith, mul-comm m w)) in
+    omega arith
 
 walk-cast-line-under : (t : ℕ) → walk-lts.Need-cast-line-under (callees t) (walk-at t) walk.Post
-walk-cast-line-under t c = fits-under w16 _ _ (remainder-below _ (weight-positive t c) (omega arith)) tt
+walk-cast-line-under t c =
+    let weighed = c .before in
+    rw (c .remainder-ahead .ensures) (fits-under w16 _ _ (edge-below _ _ _ (step-above-0 t (weighed .before .before)) (weight-positive t weighed) (omega arith)) tt)
 
 walk-line-under-requires : (t : ℕ) → walk-lts.Need-line-under-requires (callees t) (walk-at t) walk.Post
-walk-line-under-requires t c κs = (visits-within _ (c .before .before .pre .1) .1, within-path _ _ (on-path t (c .before .before)))
+walk-line-under-requires t c κs = let start = c .before .before .before in (visits-within _ (start .pre .1) .1, within-path _ _ (on-path t start))
+
+-- what was found under the edge that the round selects
+selected : (t : ℕ) (c : walk-lts.After-line-under (callees t) (walk-at t) walk.Post) →
+    let weighed = c .before .before in
+    let start = weighed .before .before in
+    line-under (path-at (now (start .args .rows))) (path-at (now (start .args .rows)) (start .args .line)) (start .args .level) ((start .args .round + start .args .ahead) / start .args .step % weighed .weight .result) ≡ line-through (c .line-under .result)
+selected t c =
+    let weighed = c .before .before in
+    rw (← digit-between _ _ _ (step-above-0 t (weighed .before .before)) (weight-positive t weighed), ← c .before .remainder-ahead .ensures) (sym (c .line-under .ensures))
 
 walk-enum-known-under : (t : ℕ) → walk-lts.Need-enum-known-under (callees t) (walk-at t) walk.Post
 walk-enum-known-under t c = search needs
@@ -93,14 +123,16 @@ walk-enum-told t c = search needs
 
 walk-returns-2 : (t : ℕ) → walk-lts.Need-returns-2 (callees t) (walk-at t) walk.Post
 walk-returns-2 t c =
-    let goes-on = c .before .before .before .before in
-    sym (walk-idle _ _ _ _ _ (goes-on .if1 .left) (on-path t (goes-on .before)) (c .before .before .before .weight .ensures) (sym (c .before .before .line-under .ensures) ∙ ap line-through (c .enum-told .given .1)))
+    let weighed = c .before .before .before .before in
+    let goes-on = weighed .before in
+    sym (walk-idle _ _ _ _ _ (goes-on .if1 .left) (on-path t (goes-on .before)) (weighed .weight .ensures) (selected t (c .before .before) ∙ ap line-through (c .enum-told .given .1)))
 
--- the line found under the edge that the round selects
+-- the line found there
 selected-line : (t : ℕ) (c : walk-lts.After-under (callees t) (walk-at t) walk.Post) →
-    let start = c .before .before .before .before .before in
-    line-under (path-at (now (start .args .rows))) (path-at (now (start .args .rows)) (start .args .line)) (start .args .level) (start .args .round / start .args .step % c .before .before .before .weight .result) ≡ some (c .under .given .0 .0)
-selected-line t c = sym (c .before .before .line-under .ensures) ∙ ap line-through (c .under .given .1)
+    let weighed = c .before .before .before .before in
+    let start = weighed .before .before in
+    line-under (path-at (now (start .args .rows))) (path-at (now (start .args .rows)) (start .args .line)) (start .args .level) ((start .args .round + start .args .ahead) / start .args .step % weighed .weight .result) ≡ some (c .under .given .0 .0)
+selected-line t c = selected t (c .before .before) ∙ ap line-through (c .under .given .1)
 
 walk-ends-below-requires : (t : ℕ) → walk-lts.Need-ends-below-requires (callees t) (walk-at t) walk.Post
 walk-ends-below-requires t c κs = line-under-within _ _ _ _ _ (selected-line t (c .before))
@@ -108,53 +140,46 @@ walk-ends-below-requires t c κs = line-under-within _ _ _ _ _ (selected-line t 
 walk-returns-3 : (t : ℕ) → walk-lts.Need-returns-3 (callees t) (walk-at t) walk.Post
 walk-returns-3 t c =
     let told = c .before .before .before in
-    let goes-on = told .before .before .before .before in
-    sym (walk-to-line _ _ _ _ _ (goes-on .if1 .left) (on-path t (goes-on .before)) (told .before .before .before .weight .ensures) _ (selected-line t told) (sym (c .before .ends-below .ensures) ∙ c .if2 .taken))
+    let weighed = told .before .before .before .before in
+    let goes-on = weighed .before in
+    sym (walk-to-line _ _ _ _ _ (goes-on .if1 .left) (on-path t (goes-on .before)) (weighed .weight .ensures) _ (selected-line t told) (sym (c .before .ends-below .ensures) ∙ c .if2 .taken))
 
 walk-add-walk : (t : ℕ) → walk-lts.Need-add-walk (callees t) (walk-at t) walk.Post
 walk-add-walk t c =
-    let start = c .before .before .before .before .before .before .before .before in
+    let start = c .before .before .before .before .before .before .before .before .before in
     omega (arith, within-path _ _ (on-path t start))
 
 walk-sub-walk : (t : ℕ) → walk-lts.Need-sub-walk (callees t) (walk-at t) walk.Post
 walk-sub-walk t c =
-    let left = c .before .before .before .before .before .before .before .if1 .left in
+    let left = c .before .before .before .before .before .before .before .before .if1 .left in
     omega (arith, left)
-
--- the product of a step and a weight fits; that of a step and an edge would fit too, so that a walk which takes it is refused for its step
-factors-below : (m k : ℕ) → m ≤ 2047 → k < 2 ^ 16 → m * k < 2 ^ 32
-factors-below m k step-small factor-small = omega (arith, mul-le-mul step-small (le-of-lt factor-small))
-
-walk-mul-walk : (t : ℕ) → walk-lts.Need-mul-walk (callees t) (walk-at t) walk.Post
-walk-mul-walk t c =
-    let after-weight = c .before .before .before .before .before .before in
-    let start = after-weight .before .before in
-    let edge-below = mod-lt (start .args .round / start .args .step) (weight-positive t after-weight) in
-    fits-under w64 _ _ (factors-below _ _ (start .pre .1 .step-at-most) (omega arith)) tt
 
 walk-walk-requires : (t : ℕ) → walk-lts.Need-walk-requires (callees t) (walk-at t) walk.Post
 walk-walk-requires t c κs =
     let told = c .before .before .before in
-    let goes-on = told .before .before .before .before in
+    let weighed = told .before .before .before .before in
+    let goes-on = weighed .before in
     let start = goes-on .before in
     let measured = start .pre .0 in
     let next = selected-line t told in
     let ends = sym (c .before .ends-below .ensures) ∙ c .if2 .left in
-    (omega (arith, goes-on .if1 .left), visits-child _ (start .pre .1) (told .before .before .before .weight .ensures) next ends)
+    (omega (arith, goes-on .if1 .left), visits-child _ (start .pre .1) (weighed .weight .ensures) next ends)
 
 walk-returns-4 : (t : ℕ) → walk-lts.Need-returns-4 (callees t) (walk-at t) walk.Post
 walk-returns-4 t c =
     let told = c .before .before .before .before in
-    let goes-on = told .before .before .before .before in
-    c .walk .ensures ∙ ap (walk-on-paths _ _ _ _) (sym (div-div-eq-div-mul _ _ _)) ∙ sym (walk-to-node _ _ _ _ _ (goes-on .if1 .left) (on-path t (goes-on .before)) (told .before .before .before .weight .ensures) _ (selected-line t told) (sym (c .before .before .ends-below .ensures) ∙ c .before .if2 .left))
+    let weighed = told .before .before .before .before in
+    let goes-on = weighed .before in
+    c .walk .ensures ∙ ap (walk-on-paths _ _ _ _) (sym (div-div-eq-div-mul _ _ _)) ∙ sym (walk-to-node _ _ _ _ _ (goes-on .if1 .left) (on-path t (goes-on .before)) (weighed .weight .ensures) _ (selected-line t told) (sym (c .before .before .ends-below .ensures) ∙ c .before .if2 .left))
 
 pub +walk-spec : {M : Type 1} → statement M
 +walk-spec = close μ-walk (λ t. walk-lts.spec (callees t) (walk-at t) walk.Post
     (walk-returns t)
     (walk-weight-requires t)
-    (walk-cast-w t)
-    (walk-div-quotient t)
-    (walk-rem-edge t)
+    (walk-cast-child-step t)
+    (walk-mul-child-step t)
+    (walk-remainder-ahead-requires t)
+    (walk-div-edge t)
     (walk-cast-line-under t)
     (walk-line-under-requires t)
     (walk-enum-known-under t)
@@ -164,6 +189,5 @@ pub +walk-spec : {M : Type 1} → statement M
     (walk-returns-3 t)
     (walk-add-walk t)
     (walk-sub-walk t)
-    (walk-mul-walk t)
     (walk-walk-requires t)
     (walk-returns-4 t))

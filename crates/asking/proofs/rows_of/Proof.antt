@@ -1,22 +1,25 @@
--- `asking::rows_of` meets its contract. The invariant: the rows passed were copied (`Copied`). The measure is what is left of the 11 rows.
+-- `asking::rows_of` meets its contract. The invariant: the rows passed were copied (`Filled`). The measure is what is left of the 11 rows.
 -- Assumes nothing.
 use Prim.Native.Nat.{_-_}
 use native.Mathlib.Omega.{arith}
+use mathlib.Core.Path.{ap₂}
 use borrow.Author.Needs.{needs}
-use denote.Ref.{now}
+use Rattle.tree.specs.Tree.{row}
+use Rattle.tree.specs.Record.{row-at}
+use Rattle.paths.proofs.Filled.{Filled, filled-none, filled-more}
 use Rattle.paths.proofs.LegalLines.{legal-rest-unused}
-use Rattle.asking.proofs.ElevenRows.{Copied, copied-none, copied-row, copied-all}
+use Rattle.asking.proofs.ElevenRows.{copied-all}
 use Rattle.asking.proofs.rows_of.Statement.{statement}
 use Rattle.asking.proofs.rows_of.Tie as tie
 
 abbrev Inv-loop : tie.InvT-loop
-Inv-loop rows line path₀ row₀ path row = Copied rows line path row
+Inv-loop rows line path₀ k₀ path k = Filled (row 0 0) 11 (row-at rows line) path k
 
 abbrev μ-loop : tie.MeasureT-loop
-μ-loop rows line path₀ row₀ path row = 11 - row
+μ-loop rows line path₀ k₀ path k = 11 - k
 
 loop-holds : tie.Need-loop-holds Inv-loop μ-loop
-loop-holds c = copied-none (now (c .args .rows)) (c .args .line)
+loop-holds c = filled-none _ _ _ _
 
 weight-requires : tie.Need-weight-requires Inv-loop μ-loop
 weight-requires c κs = search needs
@@ -39,12 +42,12 @@ loop-less c = search needs
 loop-again : tie.Need-loop-again Inv-loop μ-loop
 loop-again c =
     let in-loop = c .before .before in
-    copied-row (in-loop .before .loop .inv) (in-loop .loop-test .taken) (c .before .weight .ensures) (c .edge .ensures)
+    filled-more (in-loop .before .loop .inv) (in-loop .loop-test .taken) (ap₂ row (c .before .weight .ensures) (c .edge .ensures))
 
 returns : tie.Need-returns Inv-loop μ-loop
 returns c =
     let start = c .before .before in
-    copied-all (c .before .loop .inv) (c .loop-test .left) (legal-rest-unused _ (start .pre .0) _ (start .pre .1))
+    copied-all _ _ (c .before .loop .inv) (c .loop-test .left) (legal-rest-unused _ (start .pre .0) _ (start .pre .1))
 
 pub rows-of-spec : {M : Type 1} → statement M
 rows-of-spec =

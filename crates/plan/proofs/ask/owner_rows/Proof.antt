@@ -1,12 +1,15 @@
 -- `plan::ask::owner_rows` meets its contract: one law for each way that it can go.
 -- Assumes nothing.
+use native.Mathlib.Nat.{add-zero}
 use mathlib.Core.Path.{_≡_, sym, _∙_, ap}
 use mathlib.Core.Bool.{true}
 use borrow.Author.Needs.{needs}
 use borrow.Author.Tests.{not-true, not-false}
 use denote.Ref.{now}
+use Rattle.tree.specs.Asking.{owner}
 use Rattle.tree.specs.Record.{legal}
 use Rattle.tree.proofs.Resting.{owned-exactly, idle-exactly}
+use Rattle.bridge.specs.Rows.{tree-of}
 use Rattle.bridge.proofs.AskingRecords.{owner-on-illegal, owner-on-record}
 use Rattle.asking.specs.Answers.{owner-answered}
 use Rattle.plan.specs.Ask.{owner-answer}
@@ -24,6 +27,10 @@ returns c = sym (owner-on-illegal _ (sym (c .before .legal .ensures) ∙ not-tru
 is-tree : (c : tie.After-owner-of) → legal (now (c .before .before .before .args .rows)) ≡ true
 is-tree c = sym (c .before .before .legal .ensures) ∙ not-false _ (c .before .if1 .left)
 
+-- no round ahead: what it found is the owner of the round
+walk-found : (c : tie.After-owner-of) → owner-answered (c .owner-of .result) ≡ owner (c .before .before .before .args .round) (tree-of (now (c .before .before .before .args .rows)))
+walk-found c = rw add-zero at (c .owner-of .ensures ∙ owner-on-record _ (is-tree c) _)
+
 owner-of-requires : tie.Need-owner-of-requires
 owner-of-requires c κs = sym (c .before .legal .ensures) ∙ not-false _ (c .if1 .left)
 
@@ -40,14 +47,14 @@ returns-2 : tie.Need-returns-2
 unfolding owner-answer
 returns-2 c =
     let walked = c .before .before .before in
-    let idle = sym (walked .owner-of .ensures ∙ owner-on-record _ (is-tree walked) _) ∙ ap owner-answered (c .before .enum-told .given .1) in
+    let idle = sym (walk-found walked) ∙ ap owner-answered (c .before .enum-told .given .1) in
     sym (idle-exactly _ _ _ .1 (idle, sym (c .rest-of .ensures)))
 
 returns-3 : tie.Need-returns-3
 unfolding owner-answer
 returns-3 c =
     let walked = c .before .before .before in
-    let line = sym (walked .owner-of .ensures ∙ owner-on-record _ (is-tree walked) _) ∙ ap owner-answered (c .before .found .given .1) in
+    let line = sym (walk-found walked) ∙ ap owner-answered (c .before .found .given .1) in
     sym (owned-exactly _ _ _ .1 line)
 
 pub owner-rows-spec : {M : Type 1} → statement M
