@@ -34,7 +34,7 @@ use Rattle.orders.specs.Reading.{reading}
 use Rattle.lists.specs.Lists.{length-refused, room-refused, list-refusal}
 use Rattle.lists.proofs.AnswersFit.{Small, small-if, refusal-small, reading-small}
 use Rattle.gaplinte.specs.Answer.{answer-number, zero-value, outcome-told, InRange, Tells, narrowed}
-use Rattle.gaplinte.specs.Served.{change-outcome, ChangeServed, owner-value, owner-outcome, tree-outcome, ShowServed, TrialServed, walk-value, place-of, WalkServed, list-outcome, ListServed}
+use Rattle.gaplinte.specs.Served.{change-outcome, ChangeServed, owner-value, owner-outcome, tree-outcome, ShowServed, TrialServed, SheetServed, walk-value, place-of, WalkServed, list-outcome, ListServed}
 use Rattle.gaplinte.specs.OrdersServed.{bytes-in, PackServed, ReadServed}
 use Rattle.gaplinte.proofs.ValuesBelow.{owner-at-most}
 
@@ -163,6 +163,10 @@ show-tells rows L before after r served = tells _ r (zero-in-range _ _ (line-sma
 pub trial-tells : (rows : List ℕ) (L p : ℕ) (before after : List ℕ) (r : ℤ) → TrialServed rows L p before after r → Tells (zero-value (trial-outcome L p (tree-of rows))) r
 unfolding trial-outcome refusal
 trial-tells rows L p before after r served = tells _ r (zero-in-range _ _ (refusal-small (open-line L p) _)) (served .answer-is)
+
+pub sheet-tells : (rows : List ℕ) (a N : ℕ) (after : List ℕ) (r : ℤ) → SheetServed rows a N after r → Tells (gives 0) r
+unfolding InRange
+sheet-tells rows a N after r served = tells (gives 0) r (omega arith) (served .answer-is)
 
 pub walk-tells : (rows before after : List ℕ) (r : ℤ) → WalkServed rows before after r → Tells (walk-value (walk-outcome (place-of before) (tree-of rows))) r
 walk-tells rows before after r served = tells _ r (walk-in-range _ _ (legal-on-record rows)) (served .answer-is)

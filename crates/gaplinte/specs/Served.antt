@@ -2,12 +2,14 @@
 -- Assumes nothing.
 use Prim.Native.Nat.{ℕ, _+_}
 use mathlib.Core.Path.{_≡_}
-use mathlib.Core.List.{List, [], _∷_}
+use mathlib.Core.List.{List, [], _∷_, _++_}
 use mathlib.Core.Option.{Option}
 use lib.IntN.{ℤ}
 use lib.ListN.{length, getD}
+use Rattle.tree.specs.declared.Sheet.{Sheet}
 use Rattle.tree.specs.Search.{if_then_else_}
 use Rattle.tree.specs.Asking.{OwnerOrRest, owned-by, idle-for, owner-or-rest, Shown}
+use Rattle.tree.specs.Sheet.{sheet}
 use Rattle.tree.specs.Calls.{Call, Answer, booked, done, refused, answer, Outcome, gives, refuses, gives-unless, show-outcome}
 use Rattle.tree.specs.Trial.{Trial, trial-outcome}
 use Rattle.tree.specs.Record.{legal, numbers}
@@ -69,6 +71,17 @@ tried-numbers t = t .start ∷ t .added ∷ (if t .split then 1 else 0) ∷ []
 pub record TrialServed (rows : List ℕ) (L p : ℕ) (before after : List ℕ) (r : ℤ) : Type 0 where
   pub answer-is : r ≡ answer-number (zero-value (trial-outcome L p (tree-of rows)))
   pub tried-is : after ≡ numbers-or tried-numbers before (trial-outcome L p (tree-of rows))
+
+-- A sheet
+
+-- (Ask 5, 1) the numbers of a sheet: the turns of the 64 lines, and the idle rounds
+unfoldable pub sheet-numbers : Sheet → List ℕ
+sheet-numbers s = s .turns ++ (s .idle ∷ [])
+
+-- the sheet of a lent record: no outcome of it is a refusal, its value is 0, and the 65 numbers lent are those of the sheet
+pub record SheetServed (rows : List ℕ) (a N : ℕ) (after : List ℕ) (r : ℤ) : Type 0 where
+  pub answer-is : r ≡ answer-number (gives 0)
+  pub sheet-is : after ≡ sheet-numbers (sheet a N (tree-of rows))
 
 -- The walker
 
