@@ -26,6 +26,7 @@ use Rattle.plan.proofs.Changes.{empty-tree}
 use Rattle.history.specs.OrdersRun.{OrdersAnswered, no-order, can-be-read, cannot-be-read, Demand3OfLists}
 use Rattle.history.proofs.Demand3OfCalls.{ByTheRules, rules-demand-3, demand-3-names-owner}
 use Rattle.history.proofs.RestOfCalls.{demand-3-tells-rest}
+use Rattle.history.proofs.SheetOfCalls.{demand-3-sheet}
 
 -- The orders that can be read
 
@@ -87,6 +88,7 @@ demand-3-of-lists orders lent left written ran =
       demand-3 = claim;
       owner-named = demand-3-names-owner (run .entries) (treeOf left) claim;
       rest-told = demand-3-tells-rest (run .entries) (treeOf left) (treeOf-legal left) claim;
+      sheet-for = demand-3-sheet (run .entries) (treeOf left) (treeOf-legal left) claim;
     }
   where
     ns : List ℕ

@@ -11,9 +11,11 @@ use lib.Dec.{ltb}
 use lib.ListN.{length, drop, getD, set, length-append, length-set}
 use lib.Seq.{drop-cons, set-at}
 use Rattle.tree.specs.declared.Plan.{Plan}
+use Rattle.tree.specs.declared.Sheet.{Sheet}
 use Rattle.tree.specs.Search.{if_then_else_}
 use Rattle.tree.specs.Calls.{Call, open-line, Answer, refusal, carried-out}
 use Rattle.tree.specs.Asking.{owner-or-rest}
+use Rattle.tree.specs.Sheet.{sheet}
 use Rattle.tree.specs.Lists.{Entry, calls-of}
 use Rattle.tree.specs.Record.{treeOf, recordOf}
 use Rattle.bridge.specs.Rows.{tree-of, rows-unless, rows-after, CarriedOut}
@@ -23,9 +25,11 @@ use Rattle.plan.specs.Ask.{owner-answer}
 use Rattle.plan.specs.Meets.{empty-plan, plan-unless, plan-after, Meets}
 use Rattle.plan.proofs.Changes.{carried-meets}
 use Rattle.history.specs.Ran.{handed-on, Ran, Demand3OfCalls, OwnerOfCalls, RestOfCalls}
-use Rattle.history.specs.Replay.{call-at, first-calls, answer-number, answer-numbers, CallRan, RanFirst, Replays, ReplaysAndOwns}
+use Rattle.history.specs.Replay.{call-at, first-calls, answer-number, answer-numbers, CallRan, RanFirst, Replays, ReplaysAndOwns, ReplaysAndAddsUp}
+use Rattle.history.specs.Sheets.{SheetOfCalls}
 use Rattle.history.proofs.Demand3OfCalls.{returned-is-handed-on, demand-3-of-calls, owner-of-calls}
 use Rattle.history.proofs.RestOfCalls.{rest-of-calls}
+use Rattle.history.proofs.SheetOfCalls.{sheet-of-calls}
 
 -- One call more
 
@@ -138,6 +142,19 @@ owner-after-replay numbers before after count plan replays round a asked =
       replays = replays;
       names-owner = owner-of-calls (replays .first .entries) plan (replays .first .ran) round a asked;
       tells-rest = rest-of-calls (replays .first .entries) plan (replays .first .ran) round a asked;
+    }
+
+-- The sheet call on the plan that was left
+
+pub sheet-after-replay : (numbers before after : List ℕ) (count : ℕ) (plan : Plan) → Replays numbers before after count plan →
+    (a N : ℕ) (s : Sheet) → s ≡ sheet a N (treeOf plan) → ReplaysAndAddsUp numbers before after a N s
+unfolding SheetOfCalls
+sheet-after-replay numbers before after count plan replays a N s asked =
+    record {
+      count = count;
+      plan = plan;
+      replays = replays;
+      sheet-for = sheet-of-calls (replays .first .entries) plan (replays .first .ran) a N s asked;
     }
 
 -- A period above 4,095

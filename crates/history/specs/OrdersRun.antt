@@ -7,7 +7,9 @@ use mathlib.Core.List.{List, [], _∷_, _++_}
 use mathlib.Core.Option.{none}
 use lib.ListN.{length, drop}
 use Rattle.tree.specs.declared.Plan.{Plan}
+use Rattle.tree.specs.declared.Sheet.{Sheet}
 use Rattle.tree.specs.Asking.{owner-or-rest}
+use Rattle.tree.specs.Sheet.{sheet}
 use Rattle.tree.specs.Calls.{Call, Answer, refused, gives, refuses}
 use Rattle.tree.specs.Lists.{Entry}
 use Rattle.tree.specs.Demand3.{Demand3}
@@ -19,6 +21,7 @@ use Rattle.plan.specs.declared.ask.OwnerAnswer.{OwnerAnswer}
 use Rattle.plan.specs.Ask.{owner-answer}
 use Rattle.plan.specs.Meets.{empty-plan}
 use Rattle.history.specs.Ran.{NamesOwner, TellsRest}
+use Rattle.history.specs.Sheets.{SheetFor}
 
 -- `OrdersAnswered orders entries answers`: the entries are the calls of the orders that can be read, with their answers.
 -- The answers are those of all orders, in their sequence: such an order has the answer of its entry, and every other is refused with 6.
@@ -41,6 +44,8 @@ pub record Demand3OfOrders (orders lent : List ℕ) (after : Plan) (written : Li
   -- and the owner call, put to that plan
   pub owner-named : (round : ℕ) (a : OwnerAnswer) → owner-answer a ≡ owner-or-rest round (treeOf after) → NamesOwner entries round a
   pub rest-told : (round : ℕ) (a : OwnerAnswer) → owner-answer a ≡ owner-or-rest round (treeOf after) → TellsRest entries round a
+  -- and the sheet call
+  pub sheet-for : (a N : ℕ) (s : Sheet) → s ≡ sheet a N (treeOf after) → SheetFor entries a N s
 
 -- Demand 3 of every list of orders that is not refused.
 unfoldable pub Demand3OfLists : Type 0

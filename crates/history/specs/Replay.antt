@@ -6,6 +6,7 @@ use mathlib.Core.List.{List, [], _∷_, _++_}
 use lib.Dec.{eqb}
 use lib.ListN.{length, getD, drop}
 use Rattle.tree.specs.declared.Plan.{Plan}
+use Rattle.tree.specs.declared.Sheet.{Sheet}
 use Rattle.tree.specs.Search.{if_then_else_}
 use Rattle.tree.specs.Calls.{Call, open-line, close-line, Answer, booked, done, refused}
 use Rattle.tree.specs.Lists.{Entry, calls-of}
@@ -14,6 +15,7 @@ use Rattle.tree.specs.Record.{treeOf}
 use Rattle.plan.specs.declared.ask.OwnerAnswer.{OwnerAnswer}
 use Rattle.plan.specs.Meets.{empty-plan, Meets}
 use Rattle.history.specs.Ran.{Ran, NamesOwner, TellsRest}
+use Rattle.history.specs.Sheets.{SheetFor}
 
 -- Three numbers to a call: kind, line and period, of any size. Kind 0 opens; every other kind closes, and its period is not looked at.
 unfoldable pub call-of : ℕ → ℕ → ℕ → Call
@@ -63,3 +65,10 @@ pub record ReplaysAndOwns (numbers before after : List ℕ) (round : ℕ) (a : O
   pub replays : Replays numbers before after count plan
   pub names-owner : NamesOwner (replays .first .entries) round a
   pub tells-rest : TellsRest (replays .first .entries) round a
+
+-- The same, and then the sheet call: its figures are those of the ledger, and they add up.
+pub record ReplaysAndAddsUp (numbers before after : List ℕ) (a N : ℕ) (s : Sheet) : Type 0 where
+  pub count : ℕ
+  pub plan : Plan
+  pub replays : Replays numbers before after count plan
+  pub sheet-for : SheetFor (replays .first .entries) a N s

@@ -2,11 +2,12 @@
 ghost use mathlib.Core.Path.{_≡_};
 ghost use Rattle.tree.specs.Calls.{open-line, close-line};
 ghost use Rattle.lines.specs.Answers.{open-answer, close-answer};
-ghost use Rattle.history.specs.Replay.{call-of, answer-number, CallRan, Replays, ReplaysAndOwns};
+ghost use Rattle.history.specs.Replay.{call-of, answer-number, CallRan, Replays, ReplaysAndOwns, ReplaysAndAddsUp};
 use lines::CloseAnswer;
 use lines::OpenAnswer;
 use plan::ask::OwnerAnswer;
 use tree::Plan;
+use tree::Sheet;
 
 // One call's answer as a number, and the plan that it returned.
 pub struct CallResult {
@@ -100,4 +101,13 @@ pub fn replay_owner(calls: &[u64], answers: &mut [u64], round: u64) -> OwnerAnsw
     let replayed = replay(calls, answers);
     let plan = replayed.plan;
     plan::ask::owner(plan, round)
+}
+
+// The sheet of the plan that the lent list leaves. It is there for its contract, as `replay_owner` is: the sheet adds up.
+pub fn replay_sheet(calls: &[u64], answers: &mut [u64], first: u64, rounds: u16) -> Sheet
+    ensures { λ r. ⌜ ReplaysAndAddsUp (now (calls .entry)) (now (answers .entry)) (now (answers .exit)) first rounds r ⌝ }
+{
+    let replayed = replay(calls, answers);
+    let plan = replayed.plan;
+    plan::ask::sheet(plan, first, rounds)
 }
