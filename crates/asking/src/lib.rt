@@ -90,13 +90,16 @@ fn ends_below(rows: &[u16; 1408], line: usize, level: usize) -> bool
 }
 
 // What the round that comes so many after another leaves, divided by a number. It may be past 2^64: of the first round only the
-// remainder enters the sum.
+// remainder enters the sum, which for owner, with none ahead, is not divided again.
 fn remainder_ahead(round: u64, ahead: u16, divisor: u64) -> u64
     requires { ⌜ (0 < divisor) × (divisor < 2 ^ 32) ⌝ }
     ensures { λ r. ⌜ r ≡ (round + ahead) % divisor ⌝ }
 {
-    let passed = round % divisor;
-    (passed + ahead as u64) % divisor
+    let sum = round % divisor + ahead as u64;
+    if sum < divisor {
+        return sum;
+    }
+    sum % divisor
 }
 
 // The walk for the round that comes so many after `round`, from the node at a level of a line's path to the child that the round

@@ -79,11 +79,14 @@ fn run_close(current: Plan, line: u64) -> Plan {
     closing.plan
 }
 
+fn print_figure(figure: u16) {
+    text(b" ");
+    decimal(figure as u64);
+}
+
 fn print_row(row: Row) {
-    text(b" ");
-    decimal(row.weight as u64);
-    text(b" ");
-    decimal(row.edge as u64);
+    print_figure(row.weight);
+    print_figure(row.edge);
 }
 
 fn print_rows(rows: [Row; 11]) {
@@ -135,6 +138,24 @@ fn run_turns(current: Plan, line: u64, first: u64, rounds: u32) {
             text(b" -\n");
         }
     }
+}
+
+fn print_turns(turns: [u16; 64]) {
+    for line in 0..64 {
+        print_figure(turns[line]);
+    }
+}
+
+// The turns of the lines 0 to 63, and the idle rounds.
+fn run_sheet(current: Plan, first: u64, rounds: u16) {
+    text(b"sheet ");
+    decimal(first);
+    print_figure(rounds);
+    let sheet = plan::ask::sheet(current, first, rounds);
+    let turns = sheet.turns;
+    print_turns(turns);
+    print_figure(sheet.idle);
+    text(b"\n");
 }
 
 // The start, the number of nodes added, and whether a node is split.
@@ -216,6 +237,7 @@ fn run_question(current: Plan, kind: u8, first: u64, second: u64, third: u64) {
         5 => run_show(current, first),
         6 => run_turns(current, first, second, (third % 4294967296) as u32),
         8 => run_trial(current, first, second),
+        9 => run_sheet(current, first, (second % 65536) as u16),
         _ => {
             run_walk(
                 current,
