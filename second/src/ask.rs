@@ -69,8 +69,8 @@ fn rest(plan: &Plan, round: u64) -> u64 {
         .expect("a line owns one of as many rounds as its period")
 }
 
-/// The line, None where the round is idle. The round is any whole number, since turns and the
-/// rest go past 2^64 (document 02, Ask 1 and Ask 4).
+/// The line, None where the round is idle. The round is any whole number, since turns, the rest
+/// and the sheet go past 2^64 (document 02, Ask 1, Ask 4 and Ask 5).
 pub(crate) fn owner_at(plan: &Plan, round: u128) -> Option<u8> {
     let root = plan.root.as_ref()?;
     walk(root, 1, 0, round)

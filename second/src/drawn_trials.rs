@@ -80,8 +80,9 @@ mod tests {
     #[test]
     fn other_steps_stay_and_a_larger_count_adds() {
         for shape in Shape::ALL {
-            let script = generated(5, 6, shape);
-            assert!(generated(5, 9, shape).starts_with(&script));
+            let with = |count: u64| with_trials(&generated_calls(5, count, shape), 5);
+            let script = with(6);
+            assert!(with(9).starts_with(&script));
             assert!(script.iter().any(is_trial));
             let others = script.into_iter().filter(|step| !is_trial(step));
             assert!(others.eq(generated_calls(5, 6, shape)));

@@ -2,11 +2,12 @@
 
 use crate::ask::{owner, owner_at, show, turns};
 use crate::lists::generate;
-use crate::naive::{expected_owner, expected_start, is_tree, Time};
+use crate::naive::{expected_owner, expected_sheet, expected_start, is_tree, Time};
 use crate::orders::{run_order, ORDER_BYTES};
 use crate::random::Random;
 use crate::refusal::Refusal;
 use crate::shapes::Shape;
+use crate::sheet::sheet;
 use crate::tree::{Plan, Start};
 
 /// Period and start of each line, None while closed (The lists of demand 3, 8).
@@ -35,6 +36,16 @@ impl Ledger {
         lines
             .filter_map(|(line, it)| it.map(|(period, start)| (line, period, start)))
             .collect()
+    }
+
+    fn times(&self) -> Vec<Time> {
+        let open = self.open().into_iter();
+        open.map(|(line, period, start)| Time {
+            line,
+            period,
+            start,
+        })
+        .collect()
     }
 
     /// What an order must answer on the plan before it (Refusals, sequence).
@@ -119,14 +130,7 @@ fn assert_owners_agree(plan: &Plan, ledger: &Ledger, rounds: impl Iterator<Item 
 
 /// The whole answer of owner (document 02, Ask 4), of fewer rounds, since each rest is searched.
 fn assert_rests_agree(plan: &Plan, ledger: &Ledger, rounds: impl Iterator<Item = u64>) {
-    let open = ledger.open().into_iter();
-    let times: Vec<Time> = open
-        .map(|(line, period, start)| Time {
-            line,
-            period,
-            start,
-        })
-        .collect();
+    let times = ledger.times();
     for round in rounds {
         assert_eq!(owner(plan, round), expected_owner(&times, round), "{round}");
     }
@@ -145,6 +149,12 @@ fn assert_turns_agree(plan: &Plan, ledger: &Ledger, first: u64, rounds: u32) {
     }
 }
 
+/// The sheet against the rounds that fit each line and those that fit none (document 02, Ask 5).
+fn assert_sheet_agrees(plan: &Plan, ledger: &Ledger, first: u64, rounds: u16) {
+    let expected = expected_sheet(&ledger.times(), first, rounds);
+    assert_eq!(sheet(plan, first, rounds), expected, "{first} {rounds}");
+}
+
 fn check_lists(shape: Shape, seed: u64, count: usize) {
     let mut random = Random::new(seed);
     for _ in 0..count {
@@ -156,7 +166,9 @@ fn check_lists(shape: Shape, seed: u64, count: usize) {
         let far: Vec<u64> = (0..500).map(|_| random.draw()).collect();
         for last in [20, 1 << 32, u64::MAX, far[0]] {
             let first = last.saturating_sub(random.below(20));
-            assert_turns_agree(&plan, &ledger, first, random.below(1_000) as u32);
+            let rounds = random.below(1_000) as u16;
+            assert_turns_agree(&plan, &ledger, first, rounds.into());
+            assert_sheet_agrees(&plan, &ledger, first, rounds);
         }
         assert_rests_agree(&plan, &ledger, 0..30);
         assert_rests_agree(&plan, &ledger, (1 << 32) - 15..(1 << 32) + 15);

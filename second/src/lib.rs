@@ -1,5 +1,6 @@
-//! A second implementation of document 01 and, of document 02, Ask 1, Ask 3 and Ask 4, written
-//! from these documents alone. It writes the outputs that the proved program is tested against.
+//! A second implementation of document 01 and, of document 02, Ask 1, Ask 3, Ask 4 and Ask 5,
+//! written from these documents alone. It writes the outputs that the proved program is tested
+//! against.
 //!
 //! Comments cite document 01 as (section, sentence), counted within the section; the one
 //! word before the items of Opening a line is not counted. (Refusals, 3) is refusal 3 of
@@ -11,8 +12,10 @@ pub mod ask;
 pub mod book;
 pub mod border_owners;
 pub mod border_rests;
+pub mod border_sheets;
 pub mod border_trials;
 pub mod border_turns;
+pub mod drawn_sheets;
 pub mod drawn_trials;
 pub mod head;
 pub mod list_cases;
@@ -26,6 +29,7 @@ pub mod record;
 pub mod refusal;
 pub mod script;
 pub mod shapes;
+pub mod sheet;
 pub mod tree;
 pub mod trial;
 pub mod walker;

@@ -1,7 +1,8 @@
 //! A second reading of the candidate rule, over a flat list of the nodes, of the form of the
-//! tree, and of owner, by periods and starts. Only for tests.
+//! tree, and of owner and sheet, by periods and starts. Only for tests.
 
 use crate::ask::{show, Owner};
+use crate::sheet::{Sheet, LINES};
 use crate::tree::{gcd, Node, Plan, Position, Under};
 use std::collections::BTreeMap;
 
@@ -96,19 +97,44 @@ pub(crate) fn times(plan: &Plan) -> Vec<Time> {
     (0..64).filter_map(time).collect()
 }
 
+impl Time {
+    /// How many rounds lie from this one to the first that fits the line (The lists of demand 3,
+    /// 18), be that past 2^64 or not.
+    fn rounds_to_turn(&self, round: u64) -> u64 {
+        let (period, start) = (u64::from(self.period), u64::from(self.start));
+        (start + period - round % period) % period
+    }
+}
+
 /// The open line that the round fits (The lists of demand 3, 18), or else how many rounds lie
-/// from it to the first that fits one (Ask 4, 2). Period and start of a line give how far on its
-/// next turn is, for a whole number of any size.
+/// from it to the first that fits one (Ask 4, 2).
 pub(crate) fn expected_owner(times: &[Time], round: u64) -> Owner {
-    let turns = times.iter().map(|it| {
-        let (period, start) = (u64::from(it.period), u64::from(it.start));
-        ((start + period - round % period) % period, it.line)
-    });
+    let turns = times.iter().map(|it| (it.rounds_to_turn(round), it.line));
     match turns.min() {
         None => Owner::Idle { rest: 0 },
         Some((0, line)) => Owner::Line(line),
         Some((rest, _)) => Owner::Idle { rest },
     }
+}
+
+/// The sheet (Ask 5, 1), from a list of the rounds: each line is entered at its first turn and
+/// then one period after the other; what has no line at the end is idle. No round may get two.
+pub(crate) fn expected_sheet(times: &[Time], first: u64, rounds: u16) -> Sheet {
+    let mut owners = vec![None; usize::from(rounds)];
+    for it in times {
+        let before = it.rounds_to_turn(first) as usize;
+        for owner in owners.iter_mut().skip(before).step_by(it.period.into()) {
+            assert_eq!(owner.replace(it.line), None, "{first} {rounds}");
+        }
+    }
+    let (mut turns, mut idle) = ([0; LINES], 0);
+    for owner in owners {
+        match owner {
+            Some(line) => turns[usize::from(line)] += 1,
+            None => idle += 1,
+        }
+    }
+    Sheet { turns, idle }
 }
 
 /// The form that every plan must have (The tree, 15 and 16).

@@ -5,7 +5,9 @@
 //! significant byte first, those that are not named here 0. Kinds: 0 opens (line, period),
 //! 1 closes (line), 2 begins again with the empty plan, 3 writes a number into the record
 //! (place, number), 4 asks for an owner (round), 5 shows (line), 6 asks for turns (line,
-//! first, rounds), 7 walks (next, owned), 8 makes a trial (line, period).
+//! first, rounds), 7 walks (next, owned), 8 makes a trial (line, period), 9 asks for a sheet
+//! (first, rounds; the rounds below 65,536 in each script written here, and else taken modulo
+//! 65,536).
 //!
 //! Each step prints one line, a walk two:
 //! `open LINE PERIOD RESULT START`, with `-` for the start of a refused open;
@@ -15,7 +17,9 @@
 //! `walk NEXT OWNED ANSWER NEXT OWNED`, the answer a line, `idle REST` or `refused 9`, from
 //! the walker by value, then `lent` and the same from the walker on a lent place;
 //! `trial LINE PERIOD 0 START ADDED SPLIT`, with the number of nodes added and `split` or
-//! `whole`, or `trial LINE PERIOD RESULT - - -`.
+//! `whole`, or `trial LINE PERIOD RESULT - - -`;
+//! `sheet FIRST ROUNDS` with both as the step has them, then the turns of the lines 0 to 63, then
+//! the idle rounds.
 //!
 //! A number that is written may leave the record a tree, the same or another, or make it
 //! none, which counts as the empty plan: `record.rs` says which.
@@ -23,8 +27,10 @@
 use crate::ask::{owner, show, turns, Owner, Shown};
 use crate::border_owners::border_owners;
 use crate::border_rests::border_rests;
+use crate::border_sheets::border_sheets;
 use crate::border_trials::border_trials;
 use crate::border_turns::border_turns;
+use crate::drawn_sheets::with_sheets;
 use crate::drawn_trials::with_trials;
 use crate::head::{self, HEAD_BYTES};
 use crate::lists;
@@ -33,6 +39,7 @@ use crate::random::Random;
 use crate::record::{drawn_write, Held, RECORD_NUMBERS};
 use crate::refusal::Refusal;
 use crate::shapes::Shape;
+use crate::sheet::{sheet, Sheet};
 use crate::tree::{Plan, Start};
 use crate::trial::{trial, Trial};
 use crate::walker::{walk, walk_lent, Answer, Place};
@@ -49,6 +56,7 @@ pub enum Step {
     Turns { line: u64, first: u64, rounds: u32 },
     Walk(Place),
     Trial(u64, u64),
+    Sheet { first: u64, rounds: u64 },
 }
 
 impl Step {
@@ -67,6 +75,7 @@ impl Step {
             } => (6, [line, first, rounds.into()]),
             Step::Walk(Place { next, owned }) => (7, [next, owned, 0]),
             Step::Trial(line, period) => (8, [line, period, 0]),
+            Step::Sheet { first, rounds } => (9, [first, rounds, 0]),
         };
         head::write(kind, numbers)
     }
@@ -90,13 +99,18 @@ impl Step {
                 owned: second,
             })),
             8 => Some(Step::Trial(first, second)),
+            9 => Some(Step::Sheet {
+                first,
+                rounds: second,
+            }),
             _ => None,
         }
     }
 }
 
 /// The marked cases, then walks at the borders of a place's numbers, turns at those of a first
-/// round, owners and rests at those of a round, and trials at those of a line and a period.
+/// round, owners and rests at those of a round, trials at those of a line and a period, and
+/// sheets at those of a first round and a number of rounds.
 pub fn cases() -> Vec<Step> {
     let marked = marked_cases().into_iter();
     let begun = marked.flat_map(|case| [vec![Step::Begin], case].concat());
@@ -106,6 +120,7 @@ pub fn cases() -> Vec<Step> {
         border_owners(),
         border_rests(),
         border_trials(),
+        border_sheets(),
     ];
     begun.chain(borders.concat()).collect()
 }
@@ -163,9 +178,10 @@ fn border_walks() -> Vec<Step> {
         .collect()
 }
 
-/// Calls on generated lists' plans, and trials among them.
+/// Calls on generated lists' plans, and trials and sheets among them.
 pub fn generated(seed: u64, count: u64, shape: Shape) -> Vec<Step> {
-    with_trials(&generated_calls(seed, count, shape), seed)
+    let calls = generated_calls(seed, count, shape);
+    with_sheets(&with_trials(&calls, seed), seed)
 }
 
 /// Opens and closes of generated lists (`lists`), every eighth with a line or a period that
@@ -346,6 +362,10 @@ fn print_question(plan: &Plan, step: Step, out: &mut impl Write) -> io::Result<(
             let answer = tried(trial(plan, line, period));
             writeln!(out, "trial {line} {period} {answer}")
         }
+        Step::Sheet { first, rounds } => {
+            let columns = listed(&sheet(plan, first, rounds as u16));
+            writeln!(out, "sheet {first} {rounds} {columns}")
+        }
         _ => Ok(()),
     }
 }
@@ -410,6 +430,11 @@ fn tried(answer: Result<Trial, Refusal>) -> String {
     }
 }
 
+fn listed(sheet: &Sheet) -> String {
+    let turns = sheet.turns.map(|turns| format!("{turns} "));
+    format!("{}{}", turns.concat(), sheet.idle)
+}
+
 fn opened(answer: Result<Start, Refusal>) -> String {
     match answer {
         Ok(start) => format!("0 {}", start.0),
@@ -424,7 +449,7 @@ fn number(answer: Result<(), Refusal>) -> u8 {
 #[cfg(test)]
 pub(crate) mod tests {
     use super::*;
-    use crate::naive::{expected_owner, times};
+    use crate::naive::{expected_owner, expected_sheet, times};
 
     #[test]
     fn steps_are_read_back_from_their_bytes() {
@@ -443,11 +468,15 @@ pub(crate) mod tests {
             },
             Step::Walk(Place { next, owned: 5 }),
             Step::Trial(64, u64::MAX),
+            Step::Sheet {
+                first: next,
+                rounds: 65_535,
+            },
         ] {
             assert_eq!(Step::of(step.bytes()), Some(step));
         }
         for bytes in [
-            [9; HEAD_BYTES],
+            [10; HEAD_BYTES],
             head::write(3, [0, 1 << 16, 0]),
             head::write(6, [3, 0, 1 << 32]),
         ] {
@@ -595,6 +624,55 @@ pub(crate) mod tests {
             }
         }
         assert!(idle.iter().all(|&count| count > 100), "{idle:?}");
+    }
+
+    /// Case A (`sheet.rs` counts its turns): the lines 1, 2, 3 and 5. 65,560 rounds are taken as
+    /// 24.
+    #[test]
+    fn a_sheet_prints_every_line() {
+        let opens = opens_in_turn(&[4, 6, 8, 2, 12]);
+        let asks = [24, 65_560, 0].map(|rounds| Step::Sheet { first: 0, rounds });
+        let text = answers(&[opens.as_slice(), &asks].concat());
+        let lines: Vec<&str> = text.lines().skip(opens.len()).collect();
+        let closed = " 0".repeat(58);
+        assert_eq!(lines[0], format!("sheet 0 24 0 6 4 3 0 2{closed} 9"));
+        assert_eq!(lines[1], format!("sheet 0 65560 0 6 4 3 0 2{closed} 9"));
+        assert_eq!(lines[2], format!("sheet 0 0{} 0", " 0".repeat(64)));
+    }
+
+    #[test]
+    fn sheets_of_the_empty_plan_and_of_a_damaged_record() {
+        let first = u64::MAX;
+        let asks = Step::Sheet {
+            first,
+            rounds: 65_535,
+        };
+        let damages = [Step::Open(63, 7), Step::Write(0, 4_096)];
+        let text = answers(&[[asks].as_slice(), &damages, &[asks]].concat());
+        let sheets: Vec<&str> = text.lines().filter(|it| it.starts_with("sheet")).collect();
+        let idle = format!("sheet {first} 65535{} 65535", " 0".repeat(64));
+        assert_eq!(sheets, [&idle, &idle]);
+    }
+
+    /// After writes too, which no ledger has; the columns make N (Ask 5, 3).
+    #[test]
+    fn sheets_list_the_rounds_that_fit() {
+        let mut held = Held::empty();
+        let mut count = 0;
+        for step in [cases(), stored_lists()].concat() {
+            change(&mut held, step);
+            let Step::Sheet { first, rounds } = step else {
+                continue;
+            };
+            let rounds = u16::try_from(rounds).unwrap();
+            let made = sheet(&held.plan, first, rounds);
+            let expected = expected_sheet(&times(&held.plan), first, rounds);
+            assert_eq!(made, expected, "{first} {rounds}");
+            let turns: u64 = made.turns.iter().sum();
+            assert_eq!(turns + made.idle, rounds.into(), "{first} {rounds}");
+            count += 1;
+        }
+        assert!(count > 400, "{count}");
     }
 
     /// After a number is written the record is no tree, the same tree, or another one.

@@ -151,7 +151,7 @@ fn run_sheet(current: Plan, first: u64, rounds: u16) {
     text(b"sheet ");
     decimal(first);
     print_figure(rounds);
-    let sheet = plan::ask::sheet(current, first, rounds);
+    let sheet = plan::sheet::sheet(current, first, rounds);
     let turns = sheet.turns;
     print_turns(turns);
     print_figure(sheet.idle);
