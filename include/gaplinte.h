@@ -10,8 +10,8 @@
  * order, so a stored plan is for machines of one byte order.
  *
  * A plan that is no tree (damaged, say, or never written) is treated by each call as the empty plan: owner and the
- * walker answer idle with rest 0, show, turns and close refuse with 4, a trial tells what an open in the empty plan
- * would do, and an open that is not refused replaces it. gaplinte_is_tree tells.
+ * walker answer idle with rest 0, show, turns and close refuse with 4, in a sheet all rounds are idle, a trial tells
+ * what an open in the empty plan would do, and an open that is not refused replaces it. gaplinte_is_tree tells.
  *
  * Threads. The library keeps nothing between calls and has no global data, so calls on different records may run in
  * different threads. While one thread changes a record, no other may use it.
@@ -99,6 +99,12 @@ typedef struct gaplinte_shown {
     gaplinte_row path[GAPLINTE_ROWS];
 } gaplinte_shown;
 
+/* What sheet writes: the turns of each line, 0 for a closed one, and the idle rounds. */
+typedef struct gaplinte_figures {
+    uint16_t turns[GAPLINTE_LINES];
+    uint16_t idle;
+} gaplinte_figures;
+
 /* A walker's place: the next round, and how many of the rounds seen were owned. All 0 is before round 0. */
 typedef struct gaplinte_place {
     uint64_t next;
@@ -127,6 +133,7 @@ typedef struct gaplinte_call {
 GAPLINTE_SIZE(gaplinte_plan, 2816);
 GAPLINTE_SIZE(gaplinte_tried, 6);
 GAPLINTE_SIZE(gaplinte_shown, 48);
+GAPLINTE_SIZE(gaplinte_figures, 130);
 GAPLINTE_SIZE(gaplinte_place, 16);
 GAPLINTE_SIZE(gaplinte_order, 3);
 GAPLINTE_SIZE(gaplinte_call, 6);
@@ -166,6 +173,13 @@ static inline unsigned gaplinte_rest(int64_t owner) {
     return gaplinte_is_idle(owner) ? (unsigned)(owner - GAPLINTE_IDLE_FROM) : 0;
 }
 
+/* The turns of all lines and the idle rounds of a sheet, added up: the number of rounds that it was asked for. */
+static inline uint32_t gaplinte_sheet_total(const gaplinte_figures *sheet) {
+    uint32_t total = sheet->idle;
+    for (int line = 0; line < GAPLINTE_LINES; line++) total += sheet->turns[line];
+    return total;
+}
+
 /* Opens a line with a period of 1 to 4,095 rounds. The value is its start. Refused with 1, 2, 3 or 5. */
 GAPLINTE_NODISCARD int64_t gaplinte_open(gaplinte_plan *plan, uint64_t line, uint64_t period);
 
@@ -190,6 +204,13 @@ GAPLINTE_NODISCARD int64_t gaplinte_show(const gaplinte_plan *plan, uint64_t lin
  * can be 2^32 - 1, for which an int32_t is too narrow. Rounds are whole numbers: those from 2^64 on count too, though
  * no uint64_t holds them. 0 rounds give 0. Refused with 1 or 4. */
 GAPLINTE_NODISCARD int64_t gaplinte_turns(const gaplinte_plan *plan, uint64_t line, uint64_t first, uint32_t rounds);
+
+/* The sheet of so many rounds that begin with `first`: the turns of each line, 0 for a closed one, and the idle rounds
+ * are written. They add up to `rounds`. Rounds are whole numbers: those from 2^64 on count too, though no uint64_t
+ * holds them. C cuts a wider count to 16 bits without a word: for more than 65,535 rounds ask for several sheets. The
+ * value is 0. Never refused. */
+GAPLINTE_NODISCARD int64_t gaplinte_sheet(const gaplinte_plan *plan, uint64_t first, uint16_t rounds,
+                                          gaplinte_figures *sheet);
 
 /* The walker. The value is that of gaplinte_owner for the next round: a line, or GAPLINTE_IDLE_FROM plus the rest. The
  * place moves on by one round, and its count by 1 where the round is owned. Refused with 9 where either number is

@@ -237,6 +237,127 @@ static void rests_in_values(void) {
     }
 }
 
+/* A sheet has these figures, and they add up. All 65 numbers are written, none behind them is, and the plan stays as
+ * found. */
+static void expect_sheet(int at, uint64_t first, uint16_t rounds, const gaplinte_figures *expected) {
+    const gaplinte_plan found = plan;
+    gaplinte_figures lent[2];
+    memset(lent, 0xee, sizeof lent);
+    expect(at, gaplinte_sheet(&plan, first, rounds, lent), 0);
+    for (int line = 0; line < GAPLINTE_LINES; line++) expect(at, lent[0].turns[line], expected->turns[line]);
+    expect(at, lent[0].idle, expected->idle);
+    expect(at, gaplinte_sheet_total(lent), rounds);
+    expect(at, lent[1].turns[0], 0xeeee);
+    expect(at, memcmp(&plan, &found, sizeof found), 0);
+}
+
+/* A sheet of a plan without open lines. */
+static void expect_all_idle(int at) {
+    const uint16_t counts[] = {0, 1, 7, UINT16_MAX};
+    for (size_t which = 0; which < sizeof counts / sizeof *counts; which++) {
+        const gaplinte_figures idle = {{0}, counts[which]};
+        expect_sheet(at, 0, counts[which], &idle);
+        expect_sheet(at, UINT64_MAX, counts[which], &idle);
+    }
+}
+
+/* The turns of a line as gaplinte_turns gives them, 0 for a closed one. */
+static int64_t turns_or_0(uint64_t line, uint64_t first, uint16_t rounds) {
+    int64_t answer = gaplinte_turns(&plan, line, first, rounds);
+    return answer == -GAPLINTE_LINE_NOT_OPEN ? 0 : answer;
+}
+
+/* A sheet of rounds below 2^64 has what gaplinte_owner counts round by round, and the turns of gaplinte_turns. */
+static void expect_counted(int at, uint64_t first, uint16_t rounds) {
+    gaplinte_figures counted = {{0}, 0};
+    for (unsigned after = 0; after < rounds; after++) {
+        int64_t owner = gaplinte_owner(&plan, first + after);
+        if (gaplinte_is_idle(owner))
+            counted.idle++;
+        else
+            counted.turns[owner]++;
+    }
+    for (unsigned line = 0; line < GAPLINTE_LINES; line++)
+        expect(at, counted.turns[line], turns_or_0(line, first, rounds));
+    expect_sheet(at, first, rounds, &counted);
+}
+
+#define EXPECT_SHEET(first, rounds, expected) expect_sheet(__LINE__, first, rounds, &(expected))
+#define EXPECT_ALL_IDLE() expect_all_idle(__LINE__)
+#define EXPECT_COUNTED(first, rounds) expect_counted(__LINE__, first, rounds)
+
+/* Marked case A, with lines 1 to 4 open. Of 24 rounds line 1 owns 0, 4 .. 20, line 2 owns 1, 7, 13 and 19, line 3 owns
+ * 2, 10 and 18, and line 4 owns 3 and 15; 9 are idle. Of the rounds 5 to 11 line 2 owns 7, line 1 owns 8 and line 3
+ * owns 10. */
+static void sheets(void) {
+    const gaplinte_figures none = {{0}, 0}, of_24 = {{0, 6, 4, 3, 2}, 9}, from_5 = {{0, 1, 1, 1}, 4};
+    memset(&plan, 0, sizeof plan);
+    EXPECT(gaplinte_open(&plan, 1, 4), 0);
+    EXPECT(gaplinte_open(&plan, 2, 6), 1);
+    EXPECT(gaplinte_open(&plan, 3, 8), 2);
+    EXPECT(gaplinte_open(&plan, 4, 12), 3);
+    EXPECT_SHEET(0, 0, none);
+    EXPECT_SHEET(0, 24, of_24);
+    EXPECT_SHEET(5, 7, from_5);
+}
+
+/* 2^64 - 1 leaves 15 when it is divided by 24: it is line 4's, and 2^64, 2^64 + 2, 2^64 + 3, 2^64 + 4 and 2^64 + 8 are
+ * those of lines 1, 3, 2, 1 and 1. 65,535 is 24 * 2730 + 15; of the last 15 rounds, which leave 15 to 23 and 0 to 5,
+ * the lines own 4, 2, 2 and 2. */
+static void sheets_past_64_bits(void) {
+    const gaplinte_figures none = {{0}, 0}, of_10 = {{0, 3, 1, 1, 1}, 4};
+    const gaplinte_figures of_most = {{0, 16384, 10922, 8192, 5462}, 24575};
+    EXPECT_SHEET(UINT64_MAX, 0, none);
+    EXPECT_SHEET(UINT64_MAX, 10, of_10);
+    EXPECT_SHEET(UINT64_MAX, UINT16_MAX, of_most);
+}
+
+/* Case A with a 2 that is refused; then line 3 is closed twice, opened with a 24, and all lines are closed. */
+static void sheets_after_each_order(void) {
+    const uint8_t orders[][GAPLINTE_ORDER_BYTES] = {
+        {0x01, 0x00, 0x40}, {0x02, 0x00, 0x60}, {0x03, 0x00, 0x80}, {0x04, 0x00, 0x20},
+        {0x04, 0x00, 0xc0}, {0x43, 0x00, 0x00}, {0x43, 0x00, 0x00}, {0x03, 0x01, 0x80},
+        {0x41, 0x00, 0x00}, {0x42, 0x00, 0x00}, {0x43, 0x00, 0x00}, {0x44, 0x00, 0x00},
+    };
+    uint8_t answer[GAPLINTE_ANSWER_BYTES];
+    memset(&plan, 0, sizeof plan);
+    for (size_t which = 0; which < sizeof orders / sizeof *orders; which++) {
+        EXPECT(gaplinte_run_list(&plan, orders[which], sizeof *orders, answer, sizeof answer), 0);
+        EXPECT_COUNTED(which, 100);
+        EXPECT_COUNTED(UINT64_MAX - 99, 100);
+    }
+    EXPECT_ALL_IDLE();
+}
+
+/* Every round is a turn. */
+static void sheets_of_the_shortest_period(void) {
+    gaplinte_figures every = {{0}, 0};
+    every.turns[63] = UINT16_MAX;
+    memset(&plan, 0, sizeof plan);
+    EXPECT(gaplinte_open(&plan, 63, 1), 0);
+    EXPECT_SHEET(0, UINT16_MAX, every);
+    EXPECT_SHEET(UINT64_MAX, UINT16_MAX, every);
+}
+
+/* The line owns 2^64 - 16, and then 2^64 + 4079. 65,535 is 4095 * 16 + 15: of the most rounds 17 are turns where the
+ * first one is, and 16 where it is the one after a turn. */
+static void sheets_of_the_longest_period(void) {
+    const gaplinte_figures from_a_turn = {{17}, 65518}, after_a_turn = {{16}, 65519};
+    memset(&plan, 0, sizeof plan);
+    EXPECT(gaplinte_open(&plan, 0, GAPLINTE_LONGEST_PERIOD), 0);
+    EXPECT_SHEET(0, UINT16_MAX, from_a_turn);
+    EXPECT_SHEET(1, UINT16_MAX, after_a_turn);
+    EXPECT_SHEET(UINT64_MAX - 15, UINT16_MAX, from_a_turn);
+    EXPECT_SHEET(UINT64_MAX - 14, UINT16_MAX, after_a_turn);
+}
+
+/* No plan has such figures, and 32 bits still hold their total. */
+static void largest_total(void) {
+    gaplinte_figures figures;
+    memset(&figures, 0xff, sizeof figures);
+    EXPECT(gaplinte_sheet_total(&figures), 65 * 65535);
+}
+
 /* 63 lines of period 128 under one node. The 64 splits it: its weight becomes 64, and 63 edges lead to a new node of
  * weight 2. The 192 does that too, and adds a node of weight 3 above itself. For the 32 no class is free. */
 static void trials_in_a_full_plan(void) {
@@ -248,6 +369,14 @@ static void trials_in_a_full_plan(void) {
     EXPECT_NOT_TRIED(63, 32, GAPLINTE_NO_CANDIDATE);
     EXPECT(gaplinte_open(&plan, 63, 192), 63);
     EXPECT_NOT_TRIED(63, 192, GAPLINTE_LINE_OPEN);
+}
+
+/* The same plan: of 384 rounds lines 0 to 62 own 3 each, and line 63 owns 2. */
+static void sheet_of_a_full_plan(void) {
+    gaplinte_figures expected = {{0}, 384 - 63 * 3 - 2};
+    for (int line = 0; line < 63; line++) expected.turns[line] = 3;
+    expected.turns[63] = 2;
+    EXPECT_SHEET(0, 384, expected);
 }
 
 /* Marked case I. */
@@ -369,6 +498,7 @@ static void damaged(void) {
     EXPECT_NOT_TRIED(3, 0, GAPLINTE_PERIOD_OUT_OF_RANGE);
     EXPECT_TRIED(3, 12, 0, 1, 0);
     EXPECT_TRIED(5, 7, 0, 1, 0);
+    EXPECT_ALL_IDLE();
     EXPECT_SAME(plan, found);
     EXPECT(gaplinte_open(&plan, 3, 12), 0);
     EXPECT_SAME(plan, booked);
@@ -389,7 +519,14 @@ int main(void) {
     longest_rest();
     rest_of_the_empty_plan();
     rests_in_values();
+    sheets();
+    sheets_past_64_bits();
+    sheets_after_each_order();
+    sheets_of_the_shortest_period();
+    sheets_of_the_longest_period();
+    largest_total();
     trials_in_a_full_plan();
+    sheet_of_a_full_plan();
     list();
     order();
     narrowed();

@@ -5,6 +5,7 @@
 gaplinte_plan plan;
 gaplinte_tried tried;
 gaplinte_shown shown;
+gaplinte_figures figures;
 gaplinte_place place;
 gaplinte_order order;
 gaplinte_call call;

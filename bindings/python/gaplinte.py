@@ -12,9 +12,9 @@ Traceback (most recent call last):
     ...
 gaplinte.Refused: refused with 3: the line is open already
 
-A refused call raises Refused, and leaves plan and walker as found. A number that does not fit into the 64 bits of a
-line, a period or a round (32 for the number of rounds that turns takes) raises OverflowError, so that none is cut.
-Different plans may be used in different threads; while one thread changes a plan, no other may use it.
+A refused call raises Refused, and leaves plan and walker as found. A number that does not fit raises OverflowError, so
+that none is cut: a line, a period and a round have 64 bits, the number of rounds that turns takes has 32, and that of a
+sheet 16. Different plans may be used in different threads; while one thread changes a plan, no other may use it.
 
 The shared library is the file that the environment variable GAPLINTE_LIBRARY names, or else
 target/staticlib/libgaplinte.so of the repository. In the repository it is made by
@@ -100,6 +100,18 @@ class Shown(NamedTuple):
     path: tuple[Row, ...]
 
 
+class Sheet(NamedTuple):
+    """What sheet gives: the turns of each of the lines 0 to 63, 0 for a closed one, and the idle rounds."""
+
+    turns: tuple[int, ...]
+    idle: int
+
+    @property
+    def total(self) -> int:
+        """The turns of all lines and the idle rounds, added up: the number of rounds."""
+        return sum(self.turns) + self.idle
+
+
 class OpenLine(NamedTuple):
     """An open line of a plan."""
 
@@ -139,6 +151,10 @@ class _ShownRecord(ctypes.Structure):
     _fields_ = [("period", ctypes.c_uint16), ("start", ctypes.c_uint16), ("path", _RowRecord * _ROWS)]
 
 
+class _FiguresRecord(ctypes.Structure):
+    _fields_ = [("turns", ctypes.c_uint16 * _LINES), ("idle", ctypes.c_uint16)]
+
+
 class _PlaceRecord(ctypes.Structure):
     _fields_ = [("next", ctypes.c_uint64), ("owned", ctypes.c_uint64)]
 
@@ -169,6 +185,7 @@ def _loaded() -> ctypes.CDLL:
         "owner": [plan, number],
         "show": [plan, number, ctypes.POINTER(_ShownRecord)],
         "turns": [plan, number, number, ctypes.c_uint32],
+        "sheet": [plan, number, ctypes.c_uint16, ctypes.POINTER(_FiguresRecord)],
         "walk": [plan, ctypes.POINTER(_PlaceRecord)],
         "run_list": [plan, ctypes.c_char_p, ctypes.c_size_t, ctypes.c_char_p, ctypes.c_size_t],
         "pack": [number, number, number, order],
@@ -277,6 +294,15 @@ class Plan:
     def turns(self, line: int, first: int, rounds: int) -> int:
         """Exactly how many rounds the line owns among so many from first on, past 2**64 too. Refused with 1 or 4."""
         return _value(_library.gaplinte_turns(self._record, _number(line), _number(first), _number(rounds, 32)))
+
+    def sheet(self, first: int, rounds: int) -> Sheet:
+        """The turns of each line and the idle rounds among so many rounds from first on, past 2**64 too.
+
+        They add up to the number of rounds, which is at most 65,535; for more ask for several sheets.
+        """
+        figures = _FiguresRecord()
+        _value(_library.gaplinte_sheet(self._record, _number(first), _number(rounds, 16), figures))
+        return Sheet(tuple(figures.turns), figures.idle)
 
     def run_list(self, orders: bytes) -> list[Answer]:
         """Runs a list of orders, three bytes each, and gives the answer of each. Refused with 7.

@@ -5,6 +5,7 @@ import copy
 import doctest
 import os
 import pathlib
+import random
 import re
 import shutil
 import subprocess
@@ -14,11 +15,12 @@ import threading
 import unittest
 
 import gaplinte
-from gaplinte import KIND_CLOSE, KIND_OPEN, Answer, Call, OpenLine, Owner, Plan, Refused, Row, Trial, Walker
+from gaplinte import KIND_CLOSE, KIND_OPEN, Answer, Call, OpenLine, Owner, Plan, Refused, Row, Sheet, Trial, Walker
 
 FOLDER = pathlib.Path(__file__).resolve().parent
 REPOSITORY = FOLDER.parents[1]
 LAST = 2**64 - 1
+MOST = 2**16 - 1
 
 
 def load_tests(loader, tests, pattern):
@@ -142,6 +144,8 @@ class Numbers(Case):
                 lambda: plan.turns(number, 0, 9),
                 lambda: plan.turns(1, number, 9),
                 lambda: plan.turns(1, 0, number),
+                lambda: plan.sheet(number, 9),
+                lambda: plan.sheet(0, number),
                 lambda: gaplinte.pack(number, 1, 0),
                 lambda: gaplinte.pack(0, number, 0),
                 lambda: gaplinte.pack(0, 1, number),
@@ -150,6 +154,7 @@ class Numbers(Case):
             ):
                 self.assertRaises(OverflowError, call)
         self.assertRaises(OverflowError, plan.turns, 1, 0, 2**32)
+        self.assertRaises(OverflowError, plan.sheet, 0, 2**16)
         walker = Walker()
         walker.next = 2**64
         self.assertRaises(OverflowError, walker.walk, plan)
@@ -168,6 +173,8 @@ class Numbers(Case):
             self.assertRaises(TypeError, Plan().trial, number, 4)
             self.assertRaises(TypeError, Plan().trial, 1, number)
             self.assertRaises(TypeError, Plan().owner, number)
+            self.assertRaises(TypeError, Plan().sheet, number, 4)
+            self.assertRaises(TypeError, Plan().sheet, 1, number)
 
 
 class Records(Case):
@@ -207,6 +214,8 @@ class Records(Case):
         self.refused(2, plan.open, 3, 0)
         self.refused(2, plan.trial, 3, 0)
         self.assertEqual(plan.trial(3, 12), (0, 1, False))
+        self.assertEqual([plan.sheet(LAST, rounds).idle for rounds in (0, 7, MOST)], [0, 7, MOST])
+        self.assertEqual(plan.sheet(0, 7), ((0,) * 64, 7))
         self.assertEqual(bytes(plan), numbers.tobytes())
         self.assertEqual(plan.open(3, 12), 0)
         self.assertEqual(plan, booked)
@@ -352,6 +361,91 @@ class Rests(Case):
             for before, after in zip(owned, owned[1:]):
                 rests = [owner.rest for owner in owners[before + 1 : after]]
                 self.assertEqual(rests, list(range(after - before - 1, 0, -1)))
+
+
+class Sheets(Case):
+    def sheet(self, plan, first, rounds):
+        """A sheet, which adds up and has the turns of each line alone; the plan stays as found."""
+        before = copy.copy(plan)
+        sheet = plan.sheet(first, rounds)
+        self.assertEqual(plan, before)
+        self.assertEqual(sheet.total, rounds)
+        lines = [line for line, *_ in plan.lines()]
+        turns = [plan.turns(line, first, rounds) if line in lines else 0 for line in range(64)]
+        self.assertEqual(sheet.turns, tuple(turns))
+        return sheet
+
+    def figures(self, plan, first, rounds):
+        """The turns of lines 1 to 4 and the idle rounds."""
+        sheet = self.sheet(plan, first, rounds)
+        return (*sheet.turns[1:5], sheet.idle)
+
+    def counted(self, plan, first, rounds):
+        """A sheet of rounds below 2**64, counted with the owner call."""
+        owners = [plan.owner(round).line for round in range(first, first + rounds)]
+        return tuple(owners.count(line) for line in range(64)), owners.count(None)
+
+    def test_case_a(self):
+        plan = self.opened("4@0", "6@1", "8@2", "12@3")
+        # Of 24 rounds line 1 owns 0, 4 .. 20, line 2 owns 1, 7, 13 and 19, line 3 owns 2, 10 and 18, and line 4 owns 3
+        # and 15.
+        self.assertEqual(self.sheet(plan, 0, 24), Sheet(turns=(0, 6, 4, 3, 2) + (0,) * 59, idle=9))
+        self.assertEqual(self.figures(plan, 17, 24), (6, 4, 3, 2, 9))
+        # Lines 2, 1 and 3 own 7, 8 and 10.
+        self.assertEqual(self.figures(plan, 5, 7), (1, 1, 1, 0, 4))
+        # 4 times 24 rounds, and 1096 to 1099, which leave 16 to 19 when they are divided by 24.
+        self.assertEqual(self.figures(plan, 1000, 100), (25, 17, 13, 8, 37))
+        self.assertEqual(self.figures(plan, 3, 0), (0, 0, 0, 0, 0))
+        plan.close(3)
+        self.assertEqual(self.figures(plan, 0, 24), (6, 4, 0, 2, 12))
+
+    def test_past_64_bits(self):
+        plan = self.opened("4@0", "6@1", "8@2", "12@3")
+        # 2**64 divided by 24 leaves 16: 2**64 - 1 is line 4's, and 2**64, 2**64 + 2, 2**64 + 3, 2**64 + 4 and 2**64 + 8
+        # are those of lines 1, 3, 2, 1 and 1.
+        self.assertEqual(self.figures(plan, LAST, 0), (0, 0, 0, 0, 0))
+        self.assertEqual(self.figures(plan, LAST, 1), (0, 0, 0, 1, 0))
+        self.assertEqual(self.figures(plan, LAST, 10), (3, 1, 1, 1, 4))
+        # 2730 times 24 rounds, and 15 that leave 15 to 23 and 0 to 5.
+        self.assertEqual(self.figures(plan, LAST, MOST), (16384, 10922, 8192, 5462, 24575))
+
+    def test_one_line_and_none(self):
+        emptied = self.opened("4@0")
+        emptied.close(1)
+        for first in (0, 2**32, LAST):
+            for rounds in (0, 1, 7, MOST):
+                self.assertEqual(self.figures(self.opened("1@0"), first, rounds), (rounds, 0, 0, 0, 0))
+                for plan in (Plan(), emptied):
+                    self.assertEqual(self.sheet(plan, first, rounds), ((0,) * 64, rounds))
+        # 2**64 divided by 4,095 leaves 16, and 65,535 is 4095 * 16 + 15.
+        longest = self.opened("4095@0")
+        self.assertEqual(self.figures(longest, LAST - 15, MOST), (17, 0, 0, 0, MOST - 17))
+        self.assertEqual(self.figures(longest, LAST - 14, MOST), (16, 0, 0, 0, MOST - 16))
+
+    def test_the_first_line_and_the_last(self):
+        plan = Plan()
+        self.assertEqual((plan.open(0, 2), plan.open(63, 6)), (0, 1))
+        # Of 12 rounds 0, 2 .. 10 are line 0's, and 1 and 7 are line 63's.
+        self.assertEqual(self.sheet(plan, 0, 12), ((6,) + (0,) * 62 + (2,), 4))
+
+    def drawn_order(self, drawing):
+        """An open or a close, which can be refused."""
+        kind = drawing.choice((KIND_OPEN, KIND_OPEN, KIND_CLOSE))
+        period = drawing.choice((6, 8, 12, 24, 35, 96, 4032, 4095)) if kind == KIND_OPEN else 0
+        return gaplinte.pack(kind, drawing.choice((0, 1, 2, 31, 62, 63)), period)
+
+    def test_after_each_step(self):
+        drawing, seen = random.Random(1), set()
+        for _ in range(20):
+            plan = Plan()
+            for _ in range(30):
+                order = self.drawn_order(drawing)
+                answer, = plan.run_list(order)
+                seen.add((gaplinte.read(order).kind, answer.result))
+                first = drawing.choice((0, drawing.randrange(2**64 - 200), LAST - 200))
+                self.assertEqual(self.sheet(plan, first, 200), self.counted(plan, first, 200))
+                self.sheet(plan, LAST - drawing.randrange(300), drawing.randrange(2**16))
+        self.assertEqual(seen, {(KIND_OPEN, 0), (KIND_OPEN, 3), (KIND_OPEN, 5), (KIND_CLOSE, 0), (KIND_CLOSE, 4)})
 
 
 class Lists(Case):

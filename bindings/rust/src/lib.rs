@@ -22,6 +22,7 @@ mod owner;
 mod plan;
 pub mod raw;
 mod refusal;
+mod sheet;
 mod walker;
 
 pub use answers::{Answered, Answers};
@@ -30,4 +31,5 @@ pub use numbers::{Line, Period, Round, Start};
 pub use owner::Owner;
 pub use plan::{OpenLine, Plan, Row, Shown, Trial};
 pub use refusal::Refusal;
+pub use sheet::Sheet;
 pub use walker::Walker;

@@ -3,7 +3,7 @@
 use crate::answers::answers_length;
 use crate::raw;
 use crate::refusal::outcome;
-use crate::{Answered, Answers, Line, Owner, Period, Refusal, Round, Start};
+use crate::{Answered, Answers, Line, Owner, Period, Refusal, Round, Sheet, Start};
 use std::{array, fmt};
 
 /// A plan of rounds. [`Plan::new`] is the empty one.
@@ -173,6 +173,31 @@ impl Plan {
     /// [`Refusal::LineAbove63`] and [`Refusal::LineNotOpen`].
     pub fn turns(&self, line: Line, first: Round, rounds: u32) -> Result<u64, Refusal> {
         outcome(raw::turns(&self.rows, line.0, first.0, rounds))
+    }
+
+    /// The sheet of so many rounds that begin with `first`: the turns of each line, 0 for a closed one, and the idle
+    /// rounds. They add up to `rounds`. Rounds are whole numbers: those from 2^64 on count too, though no [`Round`]
+    /// holds them.
+    ///
+    /// ```
+    /// use gaplinte::{Line, Period, Plan, Refusal, Round};
+    ///
+    /// let mut plan = Plan::new();
+    /// plan.open(Line(1), Period(4))?;
+    /// plan.open(Line(2), Period(6))?;
+    /// // Rounds 4, 8 and 12 are line 1's, and round 7 is line 2's.
+    /// let sheet = plan.sheet(Round(4), 9);
+    /// assert_eq!(sheet.turns_of(Line(1)), Some(3));
+    /// assert_eq!(sheet.turns_of(Line(2)), Some(1));
+    /// assert_eq!((sheet.idle, sheet.total()), (5, 9));
+    /// # Ok::<(), Refusal>(())
+    /// ```
+    pub fn sheet(&self, first: Round, rounds: u16) -> Sheet {
+        let mut figures = [0; raw::SHEET_NUMBERS];
+        let value = outcome(raw::sheet(&self.rows, first.0, rounds, &mut figures));
+        value.expect("sheet has no refusal");
+        let [turns @ .., idle] = figures;
+        Sheet { turns, idle }
     }
 
     /// Runs a list of orders, three bytes each, and gives what each order is answered with.

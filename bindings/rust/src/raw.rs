@@ -5,6 +5,8 @@
 pub const PLAN_NUMBERS: usize = 1408;
 /// The numbers that show writes: period, start, and 11 rows of weight and edge.
 pub const SHOWN_NUMBERS: usize = 24;
+/// The numbers that sheet writes: the turns of each of the 64 lines, and the idle rounds.
+pub const SHEET_NUMBERS: usize = 65;
 /// A value of owner or of the walker from this on says that the round is idle, and is this plus the rest.
 pub const IDLE_FROM: i64 = 64;
 
@@ -13,7 +15,7 @@ pub const IDLE_FROM: i64 = 64;
 // for every content, keeps no pointer, and always returns.
 #[allow(unsafe_code)]
 mod foreign {
-    use super::{PLAN_NUMBERS, SHOWN_NUMBERS};
+    use super::{PLAN_NUMBERS, SHEET_NUMBERS, SHOWN_NUMBERS};
 
     unsafe extern "C" {
         pub safe fn gaplinte_open(rows: &mut [u16; PLAN_NUMBERS], line: u64, period: u64) -> i64;
@@ -35,6 +37,12 @@ mod foreign {
             line: u64,
             first: u64,
             rounds: u32,
+        ) -> i64;
+        pub safe fn gaplinte_sheet(
+            rows: &[u16; PLAN_NUMBERS],
+            first: u64,
+            rounds: u16,
+            sheet: &mut [u16; SHEET_NUMBERS],
         ) -> i64;
         pub safe fn gaplinte_walk(rows: &[u16; PLAN_NUMBERS], place: &mut [u64; 2]) -> i64;
         fn gaplinte_run_list(
@@ -99,6 +107,18 @@ pub fn show(rows: &[u16; PLAN_NUMBERS], line: u64, shown: &mut [u16; SHOWN_NUMBE
 #[must_use]
 pub fn turns(rows: &[u16; PLAN_NUMBERS], line: u64, first: u64, rounds: u32) -> i64 {
     foreign::gaplinte_turns(rows, line, first, rounds)
+}
+
+/// The sheet of so many rounds that begin with `first`, past 2^64 too: the turns of each line, 0 for a closed one, and
+/// the idle rounds are written; the value is 0. Never refused.
+#[must_use]
+pub fn sheet(
+    rows: &[u16; PLAN_NUMBERS],
+    first: u64,
+    rounds: u16,
+    sheet: &mut [u16; SHEET_NUMBERS],
+) -> i64 {
+    foreign::gaplinte_sheet(rows, first, rounds, sheet)
 }
 
 /// The walker on a place, which is the next round and the count; the value is that round's line, or [`IDLE_FROM`] plus

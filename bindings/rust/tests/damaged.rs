@@ -45,6 +45,10 @@ fn asked() {
             }
         }
         assert_eq!(plan.show(Line(64)), Err(Refusal::LineAbove63));
+        for (first, rounds) in [(0, 7), (12, 0), (u64::MAX, u16::MAX)] {
+            let sheet = plan.sheet(Round(first), rounds);
+            assert_eq!((sheet.turns, sheet.idle), ([0; 64], rounds));
+        }
         let mut walker = Walker::default();
         assert_eq!(walker.walk(&plan), Ok(Owner::Idle { rest: 0 }));
         assert_eq!((walker.next, walker.owned), (Round(1), 0));

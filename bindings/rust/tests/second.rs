@@ -1,6 +1,9 @@
-//! The same calls put to the second program, which is written from document 01 and, of document 02, Ask 1, Ask 3 and
-//! Ask 4; Ask 2 changes no answer. Every answer agrees.
+//! The same calls put to the second program, which is written from document 01 and, of document 02, Ask 1, Ask 3, Ask 4
+//! and Ask 5; Ask 2 changes no answer. Every answer agrees.
 
+mod drawn;
+
+use drawn::{first_round, sheet_rounds};
 use gaplinte::{
     raw, Answered, Answers, Call, Line, Owner, Period, Plan, Refusal, Round, Start, Trial, Walker,
 };
@@ -8,13 +11,14 @@ use second::orders::{self, Order};
 use second::random::Random;
 use second::record::{drawn_write, Held, Record};
 use second::shapes::Shape;
-use second::{ask, lists, tree, trial, walker};
+use second::{ask, lists, sheet, tree, trial, walker};
 use std::array;
 use std::collections::{BTreeMap, BTreeSet};
 
 const LISTS_OF_A_SHAPE: u64 = 100;
 const ROUNDS: u64 = 200;
 const DRAWN_PERIODS: u64 = 40;
+const SHEETS: u64 = 4;
 
 /// Cut to 8, 16 or 32 bits some would be line 0 or 4.
 const LINES_ABOVE_63: [u64; 9] = [
@@ -123,24 +127,23 @@ fn same_lines(plan: &Plan, other: &tree::Plan) {
 /// period, in the most and in any number of them.
 fn same_turns(plan: &Plan, other: &tree::Plan, line: u64, random: &mut Random) {
     let period = ask::show(other, line).map_or(1, |shown| shown.period.0.into());
-    let near = random.below(5000);
-    let middle = 1 << 32;
-    let firsts = [
-        0,
-        near,
-        middle - near,
-        middle + near,
-        u64::MAX - near,
-        u64::MAX,
-        random.draw(),
-    ];
-    let first = random.pick(&firsts);
+    let first = first_round(random);
     let any = random.draw() as u32;
     for rounds in [0, 1, period - 1, period, period + 1, u32::MAX, any] {
         let turns = numbered(plan.turns(Line(line), Round(first), rounds));
         let expected = numbered_second(ask::turns(other, line, first, rounds));
         assert_eq!(turns, expected, "line {line}, {rounds} rounds from {first}");
     }
+}
+
+/// A sheet on two plans, of few or many rounds from a round near a border or from any on.
+fn same_sheet(plan: &Plan, other: &tree::Plan, random: &mut Random) {
+    let (first, rounds) = (first_round(random), sheet_rounds(random));
+    let sheet = plan.sheet(Round(first), rounds);
+    let expected = sheet::sheet(other, first, rounds);
+    let figures = (sheet.turns.map(u64::from), u64::from(sheet.idle));
+    let expected = (expected.turns, expected.idle);
+    assert_eq!(figures, expected, "{rounds} rounds from {first}");
 }
 
 /// A trial on two plans that should have the same tree: whether a node would be split, or the refusal.
@@ -178,7 +181,7 @@ fn same_trials(plan: &Plan, other: &tree::Plan, random: &mut Random) -> Vec<Resu
     told.collect()
 }
 
-/// Owner, show, turns, the open lines and the walker on two plans that should have the same tree.
+/// Owner, show, turns, sheets, the open lines and the walker on two plans that should have the same tree.
 fn ask_both(plan: &Plan, other: &tree::Plan, random: &mut Random) {
     same_owners(plan, other, rounds(random));
     same_lines(plan, other);
@@ -193,6 +196,9 @@ fn ask_both(plan: &Plan, other: &tree::Plan, random: &mut Random) {
         });
         assert_eq!(shown, expected, "line {line}");
         same_turns(plan, other, line, random);
+    }
+    for _ in 0..SHEETS {
+        same_sheet(plan, other, random);
     }
     for from in [0, random.draw(), u64::MAX - ROUNDS / 2] {
         let mut walker = Walker {
@@ -344,6 +350,7 @@ fn damaged_records() {
             let mut lines: Vec<u64> = plan.lines().map(|open| open.line.0).collect();
             lines.push(line);
             same_turns(&plan, &held.plan, random.pick(&lines), &mut random);
+            same_sheet(&plan, &held.plan, &mut random);
             same_trials(&plan, &held.plan, &mut random);
             let answer = plan.close(Line(line));
             assert_eq!(numbered(answer), numbered_second(held.close(line)));
