@@ -1,4 +1,6 @@
-//! Both give the same answers and leave the same records and bytes, on generated calls and lists.
+//! Both give the same answers and leave the same records and bytes, on generated calls, sheets and lists.
+
+mod sheets;
 
 use crate::inputs::{
     list_of, plan_of, plan_of_powers, rounds_under_11_nodes, rounds_where, ORDERS,
@@ -52,6 +54,10 @@ impl Seen {
     fn print(&self, what: &str) {
         println!("{what}: equal answers, records and bytes");
         println!("  answers by number, 0 to 8: {:?}", self.answers);
+        self.print_records();
+    }
+
+    fn print_records(&self) {
         println!(
             "  {} on damaged records, {} of which are no tree; plans of up to {} lines",
             self.damaged, self.no_tree, self.most_lines
@@ -212,6 +218,8 @@ pub fn compare_answers(folder: &Path) {
     compare_calls();
     compare_under_11_nodes();
     compare_measured_rounds();
+    sheets::compare_sheets();
+    sheets::compare_measured_sheets();
     compare_lists();
     compare_programs(folder);
 }

@@ -12,9 +12,13 @@ mod programs;
 mod trials;
 
 const RECORD: usize = 1408;
+const SHEET: usize = 65;
 const SEED: u64 = 4;
 
 type Record = [u16; RECORD];
+
+/// The turns of each line, and the idle rounds.
+type Sheet = [u16; SHEET];
 
 /// The calls, of the library or of plain Rust. Each answers its value, or minus the number of the refusal.
 #[derive(Clone, Copy)]
@@ -22,6 +26,7 @@ struct Calls {
     open: fn(&mut Record, u64, u64) -> i64,
     close: fn(&mut Record, u64) -> i64,
     owner: fn(&Record, u64) -> i64,
+    sheet: fn(&Record, u64, u16, &mut Sheet) -> i64,
     run_list: fn(&mut Record, &[u8], &mut [u8]) -> i64,
 }
 
@@ -29,12 +34,14 @@ const LIBRARY: Calls = Calls {
     open: raw::open,
     close: raw::close,
     owner: raw::owner,
+    sheet: raw::sheet,
     run_list: raw::run_list,
 };
 const PLAIN: Calls = Calls {
     open: plain::open,
     close: plain::close,
     owner: plain::owner,
+    sheet: plain::sheet,
     run_list: plain::run_list,
 };
 

@@ -4,7 +4,7 @@ use crate::inputs::{
     list_of, plan_of, plan_of_powers, rounds_under_11_nodes, rounds_where, ORDERS,
 };
 use crate::programs::programs;
-use crate::{Calls, Record, LIBRARY, PLAIN, RECORD};
+use crate::{Calls, Record, LIBRARY, PLAIN, RECORD, SHEET};
 use std::hint::black_box;
 use std::io::Write;
 use std::path::Path;
@@ -51,6 +51,18 @@ fn owners_under_11_nodes(calls: Calls, _: usize) -> Task {
     owners_of(calls, plan_of_powers(), rounds_under_11_nodes(TOGETHER))
 }
 
+/// One sheet of the most rounds, from round 0 on, of a plan of so many lines.
+fn sheet(calls: Calls, lines: usize) -> Task {
+    let rows = plan_of(lines as u64);
+    let mut sheet = [0; SHEET];
+    Box::new(move || {
+        let (rows, first, rounds) = black_box((&rows, 0, u16::MAX));
+        let answer = (calls.sheet)(rows, first, rounds, &mut sheet);
+        assert_eq!(answer, 0, "the sheet is made");
+        black_box(&sheet);
+    })
+}
+
 fn open_and_close(calls: Calls, rows: &mut Record, line: u64) {
     let start = (calls.open)(black_box(rows), line, black_box(480));
     assert!(0 <= start, "the line is booked");
@@ -76,8 +88,8 @@ fn list(calls: Calls, lines: usize) -> Task {
     })
 }
 
-/// A row of the table: its name, for how many lines it is measured, how many calls a task makes, how often the task is
-/// repeated, and the task.
+/// A row of the table: its name, for how many lines it is measured, how many calls, orders or rounds a task has, how
+/// often the task is repeated, and the task.
 struct Measured {
     name: &'static str,
     lines: &'static [usize],
@@ -86,7 +98,7 @@ struct Measured {
     task: fn(Calls, usize) -> Task,
 }
 
-const MEASURED: [Measured; 5] = [
+const MEASURED: [Measured; 6] = [
     Measured {
         name: "owner, owned round",
         lines: &LINES,
@@ -107,6 +119,13 @@ const MEASURED: [Measured; 5] = [
         calls: TOGETHER,
         repetitions: 300,
         task: owners_under_11_nodes,
+    },
+    Measured {
+        name: "sheet of 65,535 rounds, each round",
+        lines: &LINES,
+        calls: u16::MAX as usize,
+        repetitions: 100,
+        task: sheet,
     },
     Measured {
         name: "open with close",
@@ -169,7 +188,7 @@ pub fn profile(mut words: impl Iterator<Item = String>) {
     };
     let mut number = || words.next().and_then(|word| word.parse().ok());
     let row: usize = number().expect(
-        "a row: 0 owned round, 1 idle round, 2 owner under 11 nodes, 3 open with close, 4 list",
+        "a row: 0 owned round, 1 idle round, 2 owner under 11 nodes, 3 sheet, 4 open with close, 5 list",
     );
     let lines: usize = number().expect("a number of lines");
     let times: usize = number().expect("a number of tasks");

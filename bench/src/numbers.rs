@@ -39,6 +39,28 @@ impl Numbers {
         }
     }
 
+    /// Numbers of rounds of a sheet: none, one, up to 999 and the most.
+    pub fn rounds(&mut self) -> u16 {
+        match self.below(8) {
+            0 => 0,
+            1 => 1,
+            2 => u16::MAX,
+            _ => self.below(1000) as u16,
+        }
+    }
+
+    /// First rounds of a sheet of so many: near 0, near 2^32, near 2^64 and anywhere. About half of the longer sheets
+    /// that begin near 2^32 or 2^64 go over it.
+    pub fn first(&mut self, rounds: u16) -> u64 {
+        let near = self.below(2 * u64::from(rounds) + 2);
+        match self.below(4) {
+            0 => near,
+            1 => (1 << 32) - near,
+            2 => u64::MAX - near,
+            _ => self.next(),
+        }
+    }
+
     /// Three bytes: mostly an order that can be read.
     pub fn order(&mut self) -> [u8; 3] {
         let line = self.below(64) as u8;

@@ -6,12 +6,14 @@ mod list;
 mod owner;
 mod paths;
 mod search;
+mod sheet;
 
 use crate::Record;
 
 pub use change::{close, open};
 pub use list::run_list;
 pub use owner::owner;
+pub use sheet::sheet;
 
 pub const LINES: usize = 64;
 pub const ROWS: usize = 11;

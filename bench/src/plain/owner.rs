@@ -1,4 +1,4 @@
-//! The owner of a round, and the rest of an idle one.
+//! The owner of a round, and the rest of an idle one. The walk and the times of a line are the sheet's too.
 
 use super::paths::{is_closed, legal, same_node};
 use super::{plan_in, Path, Plan, LINES, ROWS};
@@ -20,26 +20,42 @@ fn ends_below(path: &Path, level: usize) -> bool {
     path.get(level + 1).is_none_or(|row| row[0] == 0)
 }
 
-/// The walk goes down from the root, at each node to the edge that the round selects by the node's step.
-fn owner_of(plan: &Plan, round: u64) -> Option<usize> {
+/// What the round that comes so many after another leaves, divided by a number. It may be past 2^64.
+fn remainder_ahead(round: u64, ahead: u16, divisor: u64) -> u64 {
+    let sum = round % divisor + u64::from(ahead);
+    if sum < divisor {
+        return sum;
+    }
+    sum % divisor
+}
+
+/// The owner of the round that comes so many after another. The walk goes down from the root, at each node to the edge
+/// that the round selects by the steps of the node and of its child.
+pub fn owner_of(plan: &Plan, round: u64, ahead: u16) -> Option<usize> {
     let mut line = (0..LINES).find(|&line| !is_closed(&plan[line]))?;
     let mut step = 1;
     for level in 0..ROWS {
-        let weight = u64::from(plan[line][level][0]);
-        let edge = round / step % weight;
+        let child_step = step * u64::from(plan[line][level][0]);
+        let edge = remainder_ahead(round, ahead, child_step) / step;
         line = line_under(plan, &plan[line], level, edge as u16)?;
         if ends_below(&plan[line], level) {
             return Some(line);
         }
-        step *= weight;
+        step = child_step;
     }
     None
 }
 
 /// The period and the start of a line.
-fn times_of(path: &Path) -> [u16; 2] {
-    let mut product = 1;
-    let mut sum = 0;
+#[derive(Clone, Copy)]
+pub struct Times {
+    pub period: u64,
+    pub start: u64,
+}
+
+pub fn times_of(path: &Path) -> Times {
+    let mut product: u16 = 1;
+    let mut sum: u16 = 0;
     for &[weight, edge] in path {
         if weight == 0 {
             break;
@@ -47,12 +63,14 @@ fn times_of(path: &Path) -> [u16; 2] {
         sum += edge * product;
         product *= weight;
     }
-    [product, sum]
+    Times {
+        period: product.into(),
+        start: sum.into(),
+    }
 }
 
-/// How many rounds lie from a round to the next one of an open line.
-fn until_turn(path: &Path, round: u64) -> u64 {
-    let [period, start] = times_of(path).map(u64::from);
+/// How many rounds lie from a round to the next one of a line with these times.
+pub fn until_turn(Times { period, start }: Times, round: u64) -> u64 {
     let passed = round % period;
     if passed <= start {
         return start - passed;
@@ -65,7 +83,7 @@ fn rest_of(plan: &Plan, round: u64) -> u64 {
     let mut least = NO_LINE;
     for path in plan {
         if !is_closed(path) {
-            least = least.min(until_turn(path, round));
+            least = least.min(until_turn(times_of(path), round));
         }
     }
     match least {
@@ -80,7 +98,7 @@ pub fn owner(rows: &Record, round: u64) -> i64 {
     if !legal(plan) {
         return IDLE;
     }
-    match owner_of(plan, round) {
+    match owner_of(plan, round, 0) {
         Some(line) => line as i64,
         None => IDLE + rest_of(plan, round) as i64,
     }
