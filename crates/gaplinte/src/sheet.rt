@@ -29,6 +29,6 @@ pub extern "C" fn gaplinte_sheet(
 ) -> i64
     ensures { λ r. ⌜ SheetServed (now (rows .entry)) first rounds (now (sheet .exit)) r ⌝ }
 {
-    *sheet = sheet_numbers(plan::ask::sheet_rows(rows, first, rounds));
+    *sheet = sheet_numbers(plan::sheet::sheet_rows(rows, first, rounds));
     answers::value(0)
 }

@@ -109,5 +109,5 @@ pub fn replay_sheet(calls: &[u64], answers: &mut [u64], first: u64, rounds: u16)
 {
     let replayed = replay(calls, answers);
     let plan = replayed.plan;
-    plan::ask::sheet(plan, first, rounds)
+    plan::sheet::sheet(plan, first, rounds)
 }

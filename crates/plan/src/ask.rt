@@ -1,8 +1,7 @@
-// The calls that ask a plan: owner, show, turns and the sheet, each on a record that is lent and with a plan by value. A
-// record that is no tree is answered as the empty plan.
+// The calls that ask a plan: owner, show and turns, each on a record that is lent and with a plan by value. A record that
+// is no tree is answered as the empty plan.
 ghost use mathlib.Core.Path.{_≡_};
 ghost use Rattle.tree.specs.Asking.{owner-or-rest};
-ghost use Rattle.tree.specs.Sheet.{sheet};
 ghost use Rattle.tree.specs.Calls.{turns-outcome};
 ghost use Rattle.tree.specs.Record.{treeOf};
 ghost use Rattle.bridge.specs.Rows.{tree-of};
@@ -13,7 +12,6 @@ use paths::Found;
 use tree::Period;
 use tree::Plan;
 use tree::Row;
-use tree::Sheet;
 use tree::Start;
 
 // The owner of a round: a line by its number or, where there is none, how many rounds lie from the round to the next
@@ -125,25 +123,4 @@ pub fn turns(plan: Plan, line: u64, first: u64, rounds: u32) -> TurnsAnswer
     ensures { λ r. ⌜ turns-answer r ≡ turns-outcome line first rounds (treeOf plan) ⌝ }
 {
     turns_rows(&plan.rows, line, first, rounds)
-}
-
-// The sheet of a record that is lent: of so many rounds that begin with `first`, the turns of each line, 0 for a closed
-// one, and the idle rounds. It never refuses. The rounds are whole numbers and may pass 2^64.
-pub fn sheet_rows(rows: &[u16; 1408], first: u64, rounds: u16) -> Sheet
-    ensures { λ r. ⌜ r ≡ sheet first rounds (tree-of (now (rows .entry))) ⌝ }
-{
-    if !paths::legal(rows) {
-        return Sheet {
-            turns: [0; 64],
-            idle: rounds,
-        };
-    }
-    asking::sheet::sheet_of(rows, first, rounds)
-}
-
-// The same with a plan by value.
-pub fn sheet(plan: Plan, first: u64, rounds: u16) -> Sheet
-    ensures { λ r. ⌜ r ≡ sheet first rounds (treeOf plan) ⌝ }
-{
-    sheet_rows(&plan.rows, first, rounds)
 }

@@ -2,5 +2,6 @@
 pub mod ask;
 pub mod change;
 mod lookup;
+pub mod sheet;
 pub mod trial;
 pub mod walker;

@@ -1,8 +1,9 @@
 -- `asking::sheet::idle_rounds` meets its contract. The invariant: the idle rounds among those walked (`IdleAmong`). The measure is how many rounds are left.
 -- Assumes nothing.
-use Prim.Native.Nat.{_-_}
+use Prim.Native.Nat.{_+_, _-_}
 use native.Mathlib.Omega.{arith}
 use borrow.Author.Needs.{needs}
+use denote.Ref.{now}
 use Rattle.bridge.specs.Rows.{tree-of}
 use Rattle.asking.proofs.SheetFigures.{IdleAmong, none-walked, idle-at-most, one-more-walked, all-walked}
 use Rattle.asking.proofs.sheet.idle_rounds.Statement.{statement}
@@ -20,11 +21,17 @@ loop-holds c = none-walked _ _ _
 idle-at-requires : tie.Need-idle-at-requires Inv-loop μ-loop
 idle-at-requires c κs = search needs
 
--- with one round more, as many idle rounds as rounds at the most
-add-idle : tie.Need-add-idle Inv-loop μ-loop
-add-idle c =
+-- one round more, which is one of those asked; a loop that ended a round too early would walk such rounds too, and is refused for its count
+next-walked : (c : tie.After-idle-at Inv-loop μ-loop) →
+    let loop = c .before .before .loop in
+    let start = c .before .before .before in
+    IdleAmong (tree-of (now (start .args .rows))) (start .args .first) (start .args .rounds) (loop .idle + c .idle-at .result) (loop .ahead + 1)
+next-walked c =
     let in-loop = c .before in
-    omega (arith, idle-at-most (one-more-walked (in-loop .before .loop .inv) (in-loop .loop-test .taken) (c .idle-at .ensures)))
+    one-more-walked (in-loop .before .loop .inv) (omega (arith, in-loop .loop-test .taken)) (c .idle-at .ensures)
+
+add-idle : tie.Need-add-idle Inv-loop μ-loop
+add-idle c = omega (arith, idle-at-most (next-walked c))
 
 add-ahead : tie.Need-add-ahead Inv-loop μ-loop
 add-ahead c = search needs
@@ -33,9 +40,7 @@ loop-less : tie.Need-loop-less Inv-loop μ-loop
 loop-less c = search needs
 
 loop-again : tie.Need-loop-again Inv-loop μ-loop
-loop-again c =
-    let in-loop = c .before in
-    one-more-walked (in-loop .before .loop .inv) (in-loop .loop-test .taken) (c .idle-at .ensures)
+loop-again c = next-walked c
 
 returns : tie.Need-returns Inv-loop μ-loop
 returns c = all-walked (c .before .loop .inv) (c .loop-test .left)

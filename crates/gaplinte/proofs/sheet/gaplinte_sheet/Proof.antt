@@ -1,4 +1,4 @@
--- `gaplinte::sheet::gaplinte_sheet` meets its contract, by that of `plan::ask::sheet_rows`.
+-- `gaplinte::sheet::gaplinte_sheet` meets its contract, by that of `plan::sheet::sheet_rows`.
 -- Assumes nothing.
 use mathlib.Core.Path.{_∙_, ap}
 use borrow.Author.Needs.{needs}

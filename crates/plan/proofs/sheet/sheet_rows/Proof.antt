@@ -1,11 +1,11 @@
--- `plan::ask::sheet_rows` meets its contract: the record is no tree, and every round is idle, or it is one and its sheet is counted.
+-- `plan::sheet::sheet_rows` meets its contract: the record is no tree, and every round is idle, or it is one and its sheet is counted.
 -- Assumes nothing.
 use mathlib.Core.Path.{sym, _∙_}
 use borrow.Author.Needs.{needs}
 use borrow.Author.Tests.{not-true, not-false}
 use Rattle.plan.proofs.AskingLaws.{sheet-on-illegal}
-use Rattle.plan.proofs.ask.sheet_rows.Statement.{statement}
-use Rattle.plan.proofs.ask.sheet_rows.Tie as tie
+use Rattle.plan.proofs.sheet.sheet_rows.Statement.{statement}
+use Rattle.plan.proofs.sheet.sheet_rows.Tie as tie
 
 legal-requires : tie.Need-legal-requires
 legal-requires c κs = search needs

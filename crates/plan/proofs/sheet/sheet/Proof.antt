@@ -1,9 +1,9 @@
--- `plan::ask::sheet` meets its contract, by that of `sheet_rows`.
+-- `plan::sheet::sheet` meets its contract, by that of `sheet_rows`.
 -- Assumes nothing.
 use borrow.Author.Needs.{needs}
 use Rattle.bridge.specs.Rows.{tree-of}
-use Rattle.plan.proofs.ask.sheet.Statement.{statement}
-use Rattle.plan.proofs.ask.sheet.Tie as tie
+use Rattle.plan.proofs.sheet.sheet.Statement.{statement}
+use Rattle.plan.proofs.sheet.sheet.Tie as tie
 
 sheet-rows-requires : tie.Need-sheet-rows-requires
 sheet-rows-requires c κs = search needs
