@@ -98,10 +98,13 @@ edge-below n m w step-positive weight-positive small =
     let quotient-below = div-lt-iff-lt-mul {x = n % (m * w)} {y = w} step-positive .1 (omega (arith, mul-comm m w)) in
     omega arith
 
-walk-cast-line-under : (t : ℕ) → walk-lts.Need-cast-line-under (callees t) (walk-at t) walk.Post
-walk-cast-line-under t c =
+edge-small : (t : ℕ) (c : walk-lts.After-remainder-ahead (callees t) (walk-at t) walk.Post) → c .remainder-ahead .result / c .before .before .before .args .step < 2 ^ 16
+edge-small t c =
     let weighed = c .before in
-    rw (c .remainder-ahead .ensures) (fits-under w16 _ _ (edge-below _ _ _ (step-above-0 t (weighed .before .before)) (weight-positive t weighed) (omega arith)) tt)
+    rw (c .remainder-ahead .ensures) (edge-below _ _ _ (step-above-0 t (weighed .before .before)) (weight-positive t weighed) (omega arith))
+
+walk-cast-line-under : (t : ℕ) → walk-lts.Need-cast-line-under (callees t) (walk-at t) walk.Post
+walk-cast-line-under t c = fits-under w16 _ _ (edge-small t c) tt
 
 walk-line-under-requires : (t : ℕ) → walk-lts.Need-line-under-requires (callees t) (walk-at t) walk.Post
 walk-line-under-requires t c κs = let start = c .before .before .before in (visits-within _ (start .pre .1) .1, within-path _ _ (on-path t start))
