@@ -92,7 +92,7 @@ mod tests {
     use crate::naive::{expected_owner, times, Time};
     use crate::record::Held;
     use crate::refusal::Refusal;
-    use crate::script::tests::answers;
+    use crate::script::tests::{answers, trees_left_by_writes};
     use crate::walker::{walk, walk_lent, Answer};
 
     /// An owner or a walk that was answered idle.
@@ -163,15 +163,7 @@ mod tests {
     /// Each write does what its plan says.
     #[test]
     fn writes_leave_another_tree_and_then_none() {
-        let mut held = Held::empty();
-        let mut left = Vec::new();
-        for step in border_rests() {
-            let before = held.plan.clone();
-            change(&mut held, step);
-            if matches!(step, Step::Write(..)) {
-                left.push(held.record.tree().map(|plan| plan != before));
-            }
-        }
+        let left = trees_left_by_writes(&border_rests());
         assert_eq!(left, [Some(true), None].repeat(4));
     }
 

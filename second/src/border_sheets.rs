@@ -121,22 +121,14 @@ mod tests {
     use super::*;
     use crate::record::Held;
     use crate::script::change;
-    use crate::script::tests::answers;
+    use crate::script::tests::{answers, trees_left_by_writes};
     use crate::sheet::{sheet, Sheet, LINES};
     use crate::tree::Plan;
 
     /// Each write does what its plan says.
     #[test]
     fn writes_leave_another_tree_and_then_none() {
-        let mut held = Held::empty();
-        let mut left = Vec::new();
-        for step in border_sheets() {
-            let before = held.plan.clone();
-            change(&mut held, step);
-            if matches!(step, Step::Write(..)) {
-                left.push(held.record.tree().map(|plan| plan != before));
-            }
-        }
+        let left = trees_left_by_writes(&border_sheets());
         let one_empty = vec![None];
         let four_others = [Some(true), None].repeat(4);
         assert_eq!(left, [one_empty, four_others].concat());

@@ -106,20 +106,12 @@ mod tests {
     use crate::ask::{owner, Owner};
     use crate::record::Held;
     use crate::script::opens_in_turn;
-    use crate::script::tests::answers;
+    use crate::script::tests::{answers, trees_left_by_writes};
 
     /// Each write does what its plan says.
     #[test]
     fn writes_leave_another_tree_and_then_none() {
-        let mut held = Held::empty();
-        let mut left = Vec::new();
-        for step in border_turns() {
-            let before = held.plan.clone();
-            change(&mut held, step);
-            if matches!(step, Step::Write(..)) {
-                left.push(held.record.tree().map(|plan| plan != before));
-            }
-        }
+        let left = trees_left_by_writes(&border_turns());
         assert_eq!(left, [Some(true), None].repeat(3));
     }
 

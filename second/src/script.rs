@@ -451,6 +451,20 @@ pub(crate) mod tests {
     use super::*;
     use crate::naive::{expected_owner, expected_sheet, times};
 
+    /// Of each write whether it leaves another tree than there was; none where it leaves none.
+    pub(crate) fn trees_left_by_writes(steps: &[Step]) -> Vec<Option<bool>> {
+        let mut held = Held::empty();
+        let mut left = Vec::new();
+        for &step in steps {
+            let before = held.plan.clone();
+            change(&mut held, step);
+            if matches!(step, Step::Write(..)) {
+                left.push(held.record.tree().map(|plan| plan != before));
+            }
+        }
+        left
+    }
+
     #[test]
     fn steps_are_read_back_from_their_bytes() {
         let next = u64::MAX;
