@@ -6,8 +6,7 @@
 //! 1 closes (line), 2 begins again with the empty plan, 3 writes a number into the record
 //! (place, number), 4 asks for an owner (round), 5 shows (line), 6 asks for turns (line,
 //! first, rounds), 7 walks (next, owned), 8 makes a trial (line, period), 9 asks for a sheet
-//! (first, rounds; the rounds below 65,536 in each script written here, and else taken modulo
-//! 65,536).
+//! (first, rounds).
 //!
 //! Each step prints one line, a walk two:
 //! `open LINE PERIOD RESULT START`, with `-` for the start of a refused open;
@@ -18,8 +17,7 @@
 //! the walker by value, then `lent` and the same from the walker on a lent place;
 //! `trial LINE PERIOD 0 START ADDED SPLIT`, with the number of nodes added and `split` or
 //! `whole`, or `trial LINE PERIOD RESULT - - -`;
-//! `sheet FIRST ROUNDS` with both as the step has them, then the turns of the lines 0 to 63, then
-//! the idle rounds.
+//! `sheet FIRST ROUNDS`, the turns of the lines 0 to 63, and the idle rounds.
 //!
 //! A number that is written may leave the record a tree, the same or another, or make it
 //! none, which counts as the empty plan: `record.rs` says which.
@@ -56,7 +54,7 @@ pub enum Step {
     Turns { line: u64, first: u64, rounds: u32 },
     Walk(Place),
     Trial(u64, u64),
-    Sheet { first: u64, rounds: u64 },
+    Sheet { first: u64, rounds: u16 },
 }
 
 impl Step {
@@ -75,7 +73,7 @@ impl Step {
             } => (6, [line, first, rounds.into()]),
             Step::Walk(Place { next, owned }) => (7, [next, owned, 0]),
             Step::Trial(line, period) => (8, [line, period, 0]),
-            Step::Sheet { first, rounds } => (9, [first, rounds, 0]),
+            Step::Sheet { first, rounds } => (9, [first, rounds.into(), 0]),
         };
         head::write(kind, numbers)
     }
@@ -101,7 +99,7 @@ impl Step {
             8 => Some(Step::Trial(first, second)),
             9 => Some(Step::Sheet {
                 first,
-                rounds: second,
+                rounds: u16::try_from(second).ok()?,
             }),
             _ => None,
         }
@@ -363,7 +361,7 @@ fn print_question(plan: &Plan, step: Step, out: &mut impl Write) -> io::Result<(
             writeln!(out, "trial {line} {period} {answer}")
         }
         Step::Sheet { first, rounds } => {
-            let columns = listed(&sheet(plan, first, rounds as u16));
+            let columns = listed(&sheet(plan, first, rounds));
             writeln!(out, "sheet {first} {rounds} {columns}")
         }
         _ => Ok(()),
@@ -493,6 +491,7 @@ pub(crate) mod tests {
             [10; HEAD_BYTES],
             head::write(3, [0, 1 << 16, 0]),
             head::write(6, [3, 0, 1 << 32]),
+            head::write(9, [0, 1 << 16, 0]),
         ] {
             assert_eq!(Step::of(bytes), None);
         }
@@ -640,18 +639,16 @@ pub(crate) mod tests {
         assert!(idle.iter().all(|&count| count > 100), "{idle:?}");
     }
 
-    /// Case A (`sheet.rs` counts its turns): the lines 1, 2, 3 and 5. 65,560 rounds are taken as
-    /// 24.
+    /// Case A (`sheet.rs` counts its turns): the lines 1, 2, 3 and 5.
     #[test]
     fn a_sheet_prints_every_line() {
         let opens = opens_in_turn(&[4, 6, 8, 2, 12]);
-        let asks = [24, 65_560, 0].map(|rounds| Step::Sheet { first: 0, rounds });
+        let asks = [24, 0].map(|rounds| Step::Sheet { first: 0, rounds });
         let text = answers(&[opens.as_slice(), &asks].concat());
         let lines: Vec<&str> = text.lines().skip(opens.len()).collect();
         let closed = " 0".repeat(58);
         assert_eq!(lines[0], format!("sheet 0 24 0 6 4 3 0 2{closed} 9"));
-        assert_eq!(lines[1], format!("sheet 0 65560 0 6 4 3 0 2{closed} 9"));
-        assert_eq!(lines[2], format!("sheet 0 0{} 0", " 0".repeat(64)));
+        assert_eq!(lines[1], format!("sheet 0 0{} 0", " 0".repeat(64)));
     }
 
     #[test]
@@ -678,7 +675,6 @@ pub(crate) mod tests {
             let Step::Sheet { first, rounds } = step else {
                 continue;
             };
-            let rounds = u16::try_from(rounds).unwrap();
             let made = sheet(&held.plan, first, rounds);
             let expected = expected_sheet(&times(&held.plan), first, rounds);
             assert_eq!(made, expected, "{first} {rounds}");

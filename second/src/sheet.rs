@@ -35,7 +35,7 @@ fn idle_rounds(plan: &Plan, first: u64, rounds: u16) -> u64 {
 }
 
 #[cfg(test)]
-mod tests {
+pub(crate) mod tests {
     use super::*;
     use crate::lists::generate;
     use crate::naive::{expected_sheet, times};
@@ -65,7 +65,7 @@ mod tests {
     }
 
     /// First round, rounds, turns that are not 0, idle rounds.
-    type Columns<'a> = (u64, u16, &'a [(usize, u64)], u64);
+    pub(crate) type Columns<'a> = (u64, u16, &'a [(usize, u64)], u64);
 
     fn assert_sheets(plan: &Plan, expected: &[Columns]) {
         for &(first, rounds, turns, idle) in expected {

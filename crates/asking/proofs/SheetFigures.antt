@@ -1,4 +1,4 @@
--- The figures of a sheet (crate tree, specs/Sheet.antt) by a legal record: a line's turns, and whether a round is idle; the loop that counts idle rounds.
+-- The figures of a sheet (crate tree, specs/Sheet.antt) of a legal record: a line's turns, whether a round is idle, and the loop that counts idle rounds.
 -- Assumes nothing.
 use Prim.Native.Nat.{ℕ, _+_, _<_, _≤_, zero-le}
 use native.Mathlib.Omega.{arith}
@@ -31,11 +31,11 @@ module _ (rows : List ℕ) (is-legal : legal rows ≡ true) where
 
     -- n was computed from the times of an open line
     module _ (there : no-rows (path-at rows L) ≡ false) {p s n : ℕ} (period-is : p ≡ product (path-at rows L)) (start-is : s ≡ sum (path-at rows L)) (turns-are : n ≡ turns-by-times p s a N) where
-      pub turns-of-open : n ≡ line-turns L a N (tree-of rows)
-      turns-of-open = (rw (period-is, start-is) at turns-are) ∙ sym (turns-on-record rows is-legal L below there a N) ∙ sym (line-turns-are (tree-of rows) (legal-on-record rows) L a N)
-
-      pub turns-of-open-at-most : n ≤ N
-      turns-of-open-at-most = omega (arith, turns-of-open, line-turns-are (tree-of rows) (legal-on-record rows) L a N, turns-at-most L a N (tree-of rows))
+      pub turns-of-open : (n ≡ line-turns L a N (tree-of rows)) × (n ≤ N)
+      turns-of-open =
+          let listed = line-turns-are (tree-of rows) (legal-on-record rows) L a N in
+          let counted = (rw (period-is, start-is) at turns-are) ∙ sym (turns-on-record rows is-legal L below there a N) in
+          (counted ∙ sym listed, omega (arith, turns-at-most L a N (tree-of rows)))
 
   -- Whether a round is idle
 

@@ -5,7 +5,7 @@ use native.Mathlib.Omega.{arith}
 use native.Mathlib.Nat.{mod-add-div, mod-lt, mod-eq-of-lt, mod-add-mod, add-mod-mod, add-mod-right, add-mul-mod-self-left, add-mul-div-left, add-div-right, div-eq-of-lt, div-eq-of-lt-le}
 use native.Mathlib.Decide.{decLt}
 use mathlib.Core.Path.{_≡_, refl, sym, _∙_, ap}
-use mathlib.Core.Bool.{Bool, true, false, not}
+use mathlib.Core.Bool.{Bool, true, false}
 use mathlib.Core.List.{List}
 use lib.Dec.{eqb, ltb}
 use borrow.Author.Tests.{eqb-true, eqb-false, eq-eqb, ne-eqb, lt-ltb, le-ltb}
@@ -19,7 +19,8 @@ use Rattle.tree.proofs.Proper.{legal-proper}
 use Rattle.tree.proofs.Standing.{open-stands, start-below-period}
 use Rattle.tree.proofs.Ownership.{owns-by-times}
 use Rattle.tree.proofs.Resting.{next-fits}
-use Rattle.bridge.proofs.TreeOfRecord.{legal-on-record, paths-on-record, open-on-record}
+use Rattle.bridge.proofs.TreeOfRecord.{legal-on-record, paths-on-record}
+use Rattle.bridge.proofs.AskingRecords.{open-by-rows}
 use Rattle.asking.specs.Turns.{until-turn, turns-by-times}
 
 -- The numbers i below N with i mod q = u: as many as q goes into N + (q - 1 - u)
@@ -140,4 +141,4 @@ pub turns-on-record : (rows : List ℕ) → legal rows ≡ true → (L : ℕ) �
 unfolding period-of start-of
 turns-on-record rows is-legal L below there a N =
     rw (← paths-on-record rows is-legal L below) at
-    (turns-by-division (tree-of rows) (legal-on-record rows) L (open-on-record rows is-legal L below ∙ ap not there) a N)
+    (turns-by-division (tree-of rows) (legal-on-record rows) L (open-by-rows rows is-legal L (omega arith) false there) a N)

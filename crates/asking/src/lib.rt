@@ -89,8 +89,8 @@ fn ends_below(rows: &[u16; 1408], line: usize, level: usize) -> bool
     paths::weight(rows, line, level + 1) == 0
 }
 
-// What the round that comes so many after another leaves, divided by a number. It may be past 2^64: of the first round only the
-// remainder enters the sum, which for owner, with none ahead, is not divided again.
+// What round + ahead leaves, divided by `divisor`. That round may be past 2^64, so that only the remainder of `round` enters the
+// sum. With none ahead, as for owner, the sum is not divided again.
 fn remainder_ahead(round: u64, ahead: u16, divisor: u64) -> u64
     requires { ⌜ (0 < divisor) × (divisor < 2 ^ 32) ⌝ }
     ensures { λ r. ⌜ r ≡ (round + ahead) % divisor ⌝ }
@@ -102,7 +102,7 @@ fn remainder_ahead(round: u64, ahead: u16, divisor: u64) -> u64
     sum % divisor
 }
 
-// The walk for the round that comes so many after `round`, from the node at a level of a line's path to the child that the round
+// The walk for round + ahead, which may be past 2^64, from the node at a level of a line's path to the child that the round
 // selects, through at most `left` nodes. It carries the step of the node that it visits.
 fn walk(
     rows: &[u16; 1408],
@@ -131,7 +131,7 @@ fn walk(
     walk(rows, next, level + 1, left - 1, child_step, round, ahead)
 }
 
-// The owner of the round that comes so many after another: the walk goes down from the root, whose step is 1. An empty plan is idle.
+// The owner of round + ahead: the walk goes down from the root, whose step is 1. An empty plan is idle.
 pub fn owner_of(rows: &[u16; 1408], round: u64, ahead: u16) -> Owner
     requires { ⌜ legal (now rows) ≡ true ⌝ }
     ensures { λ r. ⌜ owner-answered r ≡ owner-on-paths (path-at (now (rows .entry))) (round + ahead) ⌝ }

@@ -37,7 +37,7 @@ fn turns_of_lines(rows: &[u16; 1408], first: u64, rounds: u16) -> [u16; 64]
     turns
 }
 
-// 1 where the round that comes so many after `first` is idle, else 0.
+// 1 where round first + ahead is idle, else 0.
 fn idle_at(rows: &[u16; 1408], first: u64, ahead: u16) -> u16
     requires { ⌜ legal (now rows) ≡ true ⌝ }
     ensures { λ r. ⌜ r ≡ (if not (owned (first + ahead) (tree-of (now (rows .entry)))) then 1 else 0) ⌝ }

@@ -1,4 +1,4 @@
--- Asking a record: owner and show over the record's paths answer what the rules answer on its tree; which calls are refused.
+-- Asking a record: owner and show over the record's paths answer what the rules answer on its tree; which calls are refused; its sheet adds up.
 -- Assumes nothing.
 use Prim.Native.Nat.{ℕ, _<_, _≤_}
 use native.Mathlib.Omega.{arith}
@@ -6,17 +6,20 @@ use mathlib.Core.Path.{_≡_, _∙_, ap}
 use mathlib.Core.Bool.{Bool, true, false, not}
 use mathlib.Core.List.{List}
 use mathlib.Core.Option.{none, some}
+use Rattle.tree.specs.declared.Plan.{Plan}
 use Rattle.tree.specs.Search.{found}
 use Rattle.tree.specs.Tree.{Tree, nothing, product, sum, path, is-open, period-of, start-of}
 use Rattle.tree.specs.Asking.{owner, idle-for, owner-or-rest, rows-11, shown, turns}
+use Rattle.tree.specs.Sheet.{sheet, sheet-total}
 use Rattle.tree.specs.Refusals.{line-refusal}
 use Rattle.tree.specs.Calls.{gives, refuses, gives-unless, show-outcome, turns-outcome}
-use Rattle.tree.specs.Record.{path-at, no-rows, legal}
+use Rattle.tree.specs.Record.{path-at, no-rows, legal, treeOf}
 use Rattle.paths.specs.Rules.{owner-on-paths}
 use Rattle.tree.proofs.Resting.{idle-in-empty}
+use Rattle.tree.proofs.Sheets.{sheet-adds-up}
 use Rattle.tree.proofs.Checks.{line-refused-1, line-refused-4, close-allowed}
 use Rattle.bridge.specs.Rows.{tree-of}
-use Rattle.bridge.proofs.TreeOfRecord.{treeOf-illegal, legal-on-record, paths-on-record, open-on-record}
+use Rattle.bridge.proofs.TreeOfRecord.{treeOf-legal, treeOf-illegal, legal-on-record, paths-on-record, open-on-record}
 use Rattle.bridge.proofs.WalkOnPaths.{owner-is}
 
 -- A call that asks and is refused
@@ -86,3 +89,7 @@ module _ (rows : List ℕ) where
 
       pub turns-refused-4 : (a N : ℕ) → no-rows (path-at rows L) ≡ true → turns-outcome L a N (tree-of rows) ≡ refuses 4
       turns-refused-4 a N absent = turns-refused L a N 4 (tree-of rows) (refused absent)
+
+-- (Ask 5, 3) The sheet of every plan record adds up.
+pub sheet-of-plan-adds-up : (plan : Plan) (a N : ℕ) → sheet-total (sheet a N (treeOf plan)) ≡ N
+sheet-of-plan-adds-up plan = sheet-adds-up (treeOf plan) (treeOf-legal plan)

@@ -3,12 +3,12 @@
 use Prim.Native.Nat.{ℕ, _+_, _%_, _<_}
 use native.Mathlib.Omega.{arith}
 use native.Mathlib.Decide.{decLt}
-use mathlib.Core.Path.{_≡_, refl, sym, _∙_, ap, subst}
-use mathlib.Core.Bool.{Bool, true, false, not, true≢false, false≢true, not-eq-not}
+use mathlib.Core.Path.{_≡_, refl, sym, _∙_, ap}
+use mathlib.Core.Logic.{_↔_}
+use mathlib.Core.Bool.{Bool, true, false, not, false≢true, not-eq-not}
 use mathlib.Core.List.{List, [], _∷_}
 use mathlib.Core.Option.{Option, none, some, Option·none-ne-some}
-use lib.Dec.{eqb}
-use lib.ListN.{length, getD, List·getD-eq-default}
+use lib.ListN.{List·getD-eq-default}
 use lib.Seq.{take-at, getD-at}
 use borrow.Author.Tests.{eqb-true, eq-eqb}
 use Rattle.tree.specs.declared.Sheet.{Sheet}
@@ -36,16 +36,12 @@ use Rattle.history.proofs.Demand3OfCalls.{demand-3-of-calls}
 use Rattle.history.proofs.Demand3OfRows.{demand-3-of-rows}
 use Rattle.history.proofs.Demand3OfLibrary.{demand-3-of-library}
 
--- the test says that the round fits
-fits-exactly : (n : ℕ) (o : Option Booking) → fits n o ≡ true → (b : Booking) × (o ≡ some b) × RoundFits n b
+-- the test says that the line is open and the round fits it
+pub fits-exactly : (n : ℕ) (o : Option Booking) → (fits n o ≡ true) ↔ ((b : Booking) × (o ≡ some b) × RoundFits n b)
 unfolding fits RoundFits
-fits-exactly n none h = absurd (false≢true h)
-fits-exactly n (some b) h = (b, refl, eqb-true (n % b .period) (b .start) h)
-
-fits-booked : (n : ℕ) (o : Option Booking) → (b : Booking) × (o ≡ some b) × RoundFits n b → fits n o ≡ true
-unfolding fits RoundFits
-fits-booked n none x = absurd (Option·none-ne-some (x .0) (x .1))
-fits-booked n (some c) x = let same : c ≡ x .0 = cc in rw same (eq-eqb (n % x .0 .period) (x .0 .start) (x .2))
+fits-exactly n none = (λ h. absurd (false≢true h), λ x. absurd (Option·none-ne-some (x .0) (x .1)))
+fits-exactly n (some c) =
+    (λ h. (c, refl, eqb-true (n % c .period) (c .start) h), λ x. let same : c ≡ x .0 = cc in rw same (eq-eqb (n % x .0 .period) (x .0 .start) (x .2)))
 
 -- Where demand 3 holds of a list and the tree that it left
 
@@ -55,9 +51,9 @@ module _ (entries : List Entry) (t : Tree) (is-legal : Legal t) (claim : Demand3
   owns-by-ledger L n = by-tests (owns L n t) refl (fits n (ledger-of entries L)) refl
     where
       by-tests : (b : Bool) → owns L n t ≡ b → (c : Bool) → fits n (ledger-of entries L) ≡ c → b ≡ c
-      by-tests true owned c e = sym (fits-booked n (ledger-of entries L) (claim .ownership n L .0 (owns-exactly L n t .0 owned))) ∙ e
+      by-tests true owned c e = sym (fits-exactly n (ledger-of entries L) .1 (claim .ownership n L .0 (owns-exactly L n t .0 owned))) ∙ e
       by-tests false other false e = refl
-      by-tests false other true e = sym other ∙ owns-exactly L n t .1 (claim .ownership n L .1 (fits-exactly n (ledger-of entries L) e))
+      by-tests false other true e = sym other ∙ owns-exactly L n t .1 (claim .ownership n L .1 (fits-exactly n (ledger-of entries L) .0 e))
 
   -- and it has an owner exactly when it fits some line
   owned-by-ledger : (n : ℕ) → owned n t ≡ some-below 64 (λ L. fits n (ledger-of entries L))
@@ -66,8 +62,8 @@ module _ (entries : List Entry) (t : Tree) (is-legal : Legal t) (claim : Demand3
     where
       by-owner : (o : Option ℕ) → owner n t ≡ o → found o ≡ some-below 64 (λ L. fits n (ledger-of entries L))
       by-owner none idle = sym (some-below-none 64 _ (λ L below. not-eq-not .0 (λ fitting.
-          Option·none-ne-some L (sym idle ∙ claim .ownership n L .1 (fits-exactly n (ledger-of entries L) fitting)))))
-      by-owner (some M) named = sym (some-below-at 64 _ M (owner-below-64 n t M is-legal named) (fits-booked n (ledger-of entries M) (claim .ownership n M .0 named)))
+          Option·none-ne-some L (sym idle ∙ claim .ownership n L .1 (fits-exactly n (ledger-of entries L) .0 fitting)))))
+      by-owner (some M) named = sym (some-below-at 64 _ M (owner-below-64 n t M is-legal named) (fits-exactly n (ledger-of entries M) .1 (claim .ownership n M .0 named)))
 
   module _ (a N : ℕ) where
     abbrev listed : Sheet

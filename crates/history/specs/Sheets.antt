@@ -22,19 +22,19 @@ use Rattle.history.specs.Ran.{Ran}
 use Rattle.history.specs.RanOnRows.{RanOnRows}
 use Rattle.history.specs.RanInLibrary.{Answered, entries-told, RanInLibrary}
 
--- (The lists of demand 3, 18) Round n fits the line of which the ledger has this. No round fits a closed line.
+-- (The lists of demand 3, 18) A test: round n fits the line of which the ledger has this (`RoundFits`). No round fits a closed line.
 unfoldable pub fits : ℕ → Option Booking → Bool
 fits n none = false
 fits n (some b) = eqb (n % b .period) (b .start)
 
--- (Ask 5) By the ledger, these are the figures of the N rounds that begin with a.
+-- (Ask 5, 1, 3) By the ledger, these are the figures of the N rounds that begin with a.
 pub record SheetFor (entries : List Entry) (a N : ℕ) (s : Sheet) : Type 0 where
-  -- (1) the turns of a line are the rounds that fit it; a closed one has 0
+  -- the turns of a line are the rounds that fit it; a closed one has 0
   pub turns-are : (L : ℕ) → turns-on s L ≡ count-below N (λ i. fits (a + i) (ledger-of entries L))
   pub closed-has-0 : (L : ℕ) → ledger-of entries L ≡ none → turns-on s L ≡ 0
-  -- (1) the idle rounds are those that fit no line
+  -- the idle rounds are those that fit no line
   pub idle-are : s .idle ≡ count-below N (λ i. not (some-below 64 (λ L. fits (a + i) (ledger-of entries L))))
-  -- (3) the turns over all open lines plus the idle rounds make N
+  -- the turns over all open lines plus the idle rounds make N
   pub adds-up : total-below 64 (λ L. if found (ledger-of entries L) then turns-on s L else 0) + s .idle ≡ N
 
 -- (Ask 5, 3) After every list of calls by value: the sheet of the plan that the list leaves.

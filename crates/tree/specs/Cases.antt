@@ -255,8 +255,8 @@ rests =
     ∷ owner-of 4096 (idle-for 3)
     ∷ []
 
--- ours: sheets. The empty plan; case A's plan, over 24 rounds, over none, over one, and over five of which four are past 2^64; the same after a close, when that
--- line's turns are idle; a line that owns every round.
+-- ours: sheets. The empty plan; case A's plan, over 24 rounds, over none, over one, and over five, the last four of them from 2^64 on; the same after a close, when
+-- that line's turns are idle; a line that owns every round.
 unfoldable pub sheets : List Step
 sheets =
     sheet-of 7 5 (lists [] 5)

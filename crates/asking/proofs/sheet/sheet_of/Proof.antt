@@ -13,7 +13,7 @@ idle-rounds-requires c κs = search needs
 
 returns : tie.Need-returns
 unfolding sheet
-returns c i = record { turns = c .before .turns-of-lines .ensures i; idle = c .idle-rounds .ensures i }
+returns c = cc (c .before .turns-of-lines .ensures, c .idle-rounds .ensures)
 
 pub sheet-of-spec : {M : Type 1} → statement M
 sheet-of-spec = tie.close (tie.spec turns-of-lines-requires idle-rounds-requires returns)
