@@ -301,7 +301,7 @@ static void sheets(void) {
     EXPECT_SHEET(5, 7, from_5);
 }
 
-/* 2^64 - 1 leaves 15 when it is divided by 24: it is line 4's, and 2^64, 2^64 + 2, 2^64 + 3, 2^64 + 4 and 2^64 + 8 are
+/* The same plan. 2^64 - 1 leaves 15 when it is divided by 24: it is line 4's, and 2^64, 2^64 + 2, 2^64 + 3, 2^64 + 4 and 2^64 + 8 are
  * those of lines 1, 3, 2, 1 and 1. 65,535 is 24 * 2730 + 15; of the last 15 rounds, which leave 15 to 23 and 0 to 5,
  * the lines own 4, 2, 2 and 2. */
 static void sheets_past_64_bits(void) {

@@ -36,12 +36,6 @@ fn values() {
     // Of the rounds 2 to 2^32 line 6 owns 5, 9 .. 2^32 - 3.
     assert_eq!(raw::turns(&rows, 6, 2, u32::MAX), (1 << 30) - 1);
     assert_eq!(raw::turns(&rows, 6, u64::MAX - 2, 1), 1);
-    // Of the rounds 2^64 - 3 to 2^64 + 6 line 5 owns 2^64 and 2^64 + 4, line 6 owns 2^64 - 3, 2^64 + 1 and 2^64 + 5.
-    let mut sheet = [7; raw::SHEET_NUMBERS];
-    assert_eq!(raw::sheet(&rows, u64::MAX - 2, 10, &mut sheet), 0);
-    let mut expected = [0; raw::SHEET_NUMBERS];
-    (expected[5], expected[6], expected[64]) = (2, 3, 5);
-    assert_eq!(sheet, expected);
     assert_eq!(raw::is_tree(&rows), 1);
     let mut shown = [7; raw::SHOWN_NUMBERS];
     assert_eq!(raw::show(&rows, 6, &mut shown), 0);
@@ -60,6 +54,18 @@ fn values() {
     assert_eq!(raw::owner(&rows, 6), raw::IDLE_FROM);
     assert_eq!(raw::is_tree(&rows), 1);
     assert_eq!(raw::is_tree(&[1; raw::PLAN_NUMBERS]), 0);
+}
+
+/// Of the rounds 2^64 - 3 to 2^64 + 6 line 5 owns 2^64 and 2^64 + 4, line 6 owns 2^64 - 3, 2^64 + 1 and 2^64 + 5.
+#[test]
+fn a_sheet_is_65_numbers() {
+    let mut rows = one_line();
+    assert_eq!(raw::open(&mut rows, 6, 4), 1);
+    let mut sheet = [7; raw::SHEET_NUMBERS];
+    assert_eq!(raw::sheet(&rows, u64::MAX - 2, 10, &mut sheet), 0);
+    let mut expected = [0; raw::SHEET_NUMBERS];
+    (expected[5], expected[6], expected[64]) = (2, 3, 5);
+    assert_eq!(sheet, expected);
 }
 
 #[test]

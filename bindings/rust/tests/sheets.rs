@@ -1,5 +1,5 @@
-//! The sheet that adds up. What is expected is worked out from periods and starts, or counted round by round with the
-//! owner call itself.
+//! The sheet that adds up. What is expected is worked out by hand or from periods and starts, counted round by round with
+//! the owner call, or given by the turns call.
 
 mod drawn;
 mod plans;
