@@ -5,7 +5,7 @@ use Prim.Native.Nat.{ℕ, _+_, _*_, _/_, _%_, _^_, _<_, _≤_}
 use native.Mathlib.Nat.{mod-lt, le-of-lt, mul-pos, mul-comm, mul-le-mul, div-lt-iff-lt-mul, div-div-eq-div-mul}
 use native.Mathlib.Omega.{arith}
 use mathlib.Core.Path.{_≡_, sym, _∙_, ap}
-use mathlib.Core.Option.{some}
+use mathlib.Core.Option.{Option, some}
 use lib.ListN.{length}
 use mir.Syntax.{w16, w64}
 use borrow.Author.Needs.{needs, fits-under}
@@ -109,11 +109,14 @@ walk-cast-line-under t c = fits-under w16 _ _ (edge-small t c) tt
 walk-line-under-requires : (t : ℕ) → walk-lts.Need-line-under-requires (callees t) (walk-at t) walk.Post
 walk-line-under-requires t c κs = let start = c .before .before .before in (visits-within _ (start .pre .1) .1, within-path _ _ (on-path t start))
 
--- what was found under the edge that the round selects
-selected : (t : ℕ) (c : walk-lts.After-line-under (callees t) (walk-at t) walk.Post) →
+-- under the edge that the round selects is this line, or none
+abbrev Selected : (t : ℕ) (c : walk-lts.After-line-under (callees t) (walk-at t) walk.Post) → Option ℕ → Type 0
+Selected t c o =
     let weighed = c .before .before in
     let start = weighed .before .before in
-    line-under (path-at (now (start .args .rows))) (path-at (now (start .args .rows)) (start .args .line)) (start .args .level) ((start .args .round + start .args .ahead) / start .args .step % weighed .weight .result) ≡ line-through (c .line-under .result)
+    line-under (path-at (now (start .args .rows))) (path-at (now (start .args .rows)) (start .args .line)) (start .args .level) ((start .args .round + start .args .ahead) / start .args .step % weighed .weight .result) ≡ o
+
+selected : (t : ℕ) (c : walk-lts.After-line-under (callees t) (walk-at t) walk.Post) → Selected t c (line-through (c .line-under .result))
 selected t c =
     let weighed = c .before .before in
     rw (← digit-between _ _ _ (step-above-0 t (weighed .before .before)) (weight-positive t weighed), ← c .before .remainder-ahead .ensures) (sym (c .line-under .ensures))
@@ -131,10 +134,7 @@ walk-returns-2 t c =
     sym (walk-idle _ _ _ _ _ (goes-on .if1 .left) (on-path t (goes-on .before)) (weighed .weight .ensures) (selected t (c .before .before) ∙ ap line-through (c .enum-told .given .1)))
 
 -- the line found there
-selected-line : (t : ℕ) (c : walk-lts.After-under (callees t) (walk-at t) walk.Post) →
-    let weighed = c .before .before .before .before in
-    let start = weighed .before .before in
-    line-under (path-at (now (start .args .rows))) (path-at (now (start .args .rows)) (start .args .line)) (start .args .level) ((start .args .round + start .args .ahead) / start .args .step % weighed .weight .result) ≡ some (c .under .given .0 .0)
+selected-line : (t : ℕ) (c : walk-lts.After-under (callees t) (walk-at t) walk.Post) → Selected t (c .before .before) (some (c .under .given .0 .0))
 selected-line t c = selected t (c .before .before) ∙ ap line-through (c .under .given .1)
 
 walk-ends-below-requires : (t : ℕ) → walk-lts.Need-ends-below-requires (callees t) (walk-at t) walk.Post
