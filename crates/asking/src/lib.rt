@@ -1,5 +1,7 @@
 // Asking the plan: what owner, show and turns read from the lent array of a plan record; the rest of an idle round in `rest`,
 // the figures of a sheet in `sheet`.
+#![tactic(auto)]
+
 ghost use Rattle.std.specs.Prelude.{◌≡◌, true, suc, ◌+◌, ◌/◌, ◌%◌, ◌^◌, ◌<◌, eqb, length};
 ghost use Rattle.tree.specs.Tree.{product, sum};
 ghost use Rattle.tree.specs.Asking.{rows_11};

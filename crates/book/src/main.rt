@@ -1,5 +1,7 @@
 // The program `book` (document 01, section Orders): runs standard input on an empty plan and prints what each order
 // answered. All of its work is book_text::write_text. A read or a write that fails is reported on standard error.
+#![tactic(auto)]
+
 ghost use Rattle.std.specs.Prelude.{◌≡◌, ◌≤◌, length, take};
 ghost use Rattle.io.specs.Counts.{IsPrefixLen};
 ghost use Rattle.book_text.specs.BookText.{book_text};

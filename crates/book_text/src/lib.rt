@@ -1,5 +1,7 @@
 // The text of the program `book` (document 01, section Orders, last paragraph), written into lent bytes: a header, then
 // a line for each order, or `list 7` where the list is refused.
+#![tactic(auto)]
+
 ghost use Rattle.std.specs.Prelude.{◌≡◌, [], ◌∷◌, ◌+◌, ◌*◌, ◌/◌, ◌%◌, length};
 ghost use Rattle.tree.specs.Tree.{nothing};
 ghost use Rattle.orders.specs.Order.{order_of, fields_of};

@@ -1,5 +1,7 @@
 // What an open and a close write into the lent array of a plan record: the rows of one line, or of all lines through a node.
 // Row k of line L is the pair of numbers at 22 * L + 2 * k.
+#![tactic(auto)]
+
 ghost use Rattle.std.specs.Prelude.{◌≡◌, [], ◌∷◌, ◌<◌, length, take};
 ghost use Rattle.tree.specs.Tree.{row};
 ghost use Rattle.tree.specs.Record.{path_at};

@@ -1,5 +1,7 @@
 // A test of the calls of crate plan, against the output of `second answers`: a script of calls is read from standard
 // input, put to one plan after another, and each answer is printed. second/src/script.rs says the formats.
+#![tactic(auto)]
+
 ghost use Rattle.tree.specs.Record.{tree_of};
 ghost use Rattle.plan.specs.Walker.{WalkedOn};
 

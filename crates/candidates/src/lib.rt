@@ -1,4 +1,6 @@
 // The search for the chosen candidate, over the lent array of a legal plan record. It looks at no line from `end` on, since these are closed (`lines_end`).
+#![tactic(auto)]
+
 ghost use Rattle.std.specs.Prelude.{◌≡◌, true, ◌+◌, ◌*◌, ◌<◌, ◌≤◌, length};
 ghost use Rattle.tree.specs.Numbers.{gcd, divides};
 ghost use Rattle.tree.specs.Record.{path_at, legal};

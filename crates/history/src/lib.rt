@@ -1,4 +1,6 @@
 // Demand 3 over the program's own calls: a list of calls is run on the real open and close, and the whole claim is what the function ensures.
+#![tactic(auto)]
+
 ghost use Rattle.std.specs.Prelude.{◌≡◌};
 ghost use Rattle.tree.specs.Calls.{open_line, close_line};
 ghost use Rattle.lines.specs.Answers.{open_answer, close_answer};

@@ -1,4 +1,6 @@
 // Opening and closing a line in the lent array of a legal plan record. The record stays as it was where the call is refused.
+#![tactic(auto)]
+
 ghost use Rattle.std.specs.Prelude.{◌≡◌, true, false, ◌<◌};
 ghost use Rattle.tree.specs.Calls.{open_line, close_line, done};
 ghost use Rattle.tree.specs.Record.{path_at, no_rows, legal};

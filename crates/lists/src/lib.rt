@@ -1,4 +1,6 @@
 // A list of orders run on a plan (document 01, section Orders): three bytes in and two bytes out for each order.
+#![tactic(auto)]
+
 ghost use Rattle.std.specs.Prelude.{◌≡◌, true, false, ◌||◌, ◌+◌, ◌<◌, length, set};
 ghost use Rattle.std.proofs.Math.Option.{none};
 ghost use Rattle.tree.specs.Calls.{open_line, close_line};

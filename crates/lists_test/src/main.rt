@@ -1,5 +1,7 @@
 // A test of the list call, against the output of `second list_answers`: a script of steps is read from standard input,
 // lists are run on one plan after another, and each answer is printed. second/src/list_script.rs says the formats.
+#![tactic(auto)]
+
 ghost use Rattle.std.specs.Prelude.{◌+◌, ◌*◌, ◌<◌, ◌≤◌};
 ghost use lib.ListN.{length};
 

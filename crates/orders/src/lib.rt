@@ -1,5 +1,7 @@
 // Orders (document 01, section Orders): packing one into three bytes, and reading three bytes.
 // An order is a word of 24 bits: kind 2, line 6, period 12 and filler 4 bits, most significant bit first.
+#![tactic(auto)]
+
 ghost use Rattle.std.specs.Prelude.{◌≡◌, ◌<◌, ◌^◌};
 ghost use Rattle.orders.specs.Field.{field, joined};
 ghost use Rattle.orders.specs.Order.{order_of, order_with, bytes_of, fields_of};

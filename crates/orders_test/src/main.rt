@@ -1,5 +1,7 @@
 // A test of `orders`, against the output of `second orders`: every three bytes are read and packed back,
 // and every period is packed with kinds and lines at the borders and read back.
+#![tactic(auto)]
+
 use libc::STDOUT_FILENO;
 use orders::{Bytes, Packed, Reading};
 use tree::Period;

@@ -1,5 +1,7 @@
 // The paths of a plan record, read from its lent array, and the check that the record is a tree.
 // Row k of line L is the pair of numbers at 22 * L + 2 * k; a path is a line's rows up to the first of weight 0.
+#![tactic(auto)]
+
 ghost use Rattle.std.specs.Prelude.{◌≡◌, true, ◌+◌, ◌<◌, ◌≤◌, length};
 ghost use Rattle.tree.specs.Record.{row_at, path_at, rest_unused, no_rows, parts, together, legal};
 ghost use Rattle.paths.specs.Rules.{same_node};

@@ -1,5 +1,7 @@
 // What the test programs share: the numbers of a step of a script, printing, and the steps that two programs have.
 // It is for tests and promises only that it is safe and ends, since what is printed is compared.
+#![tactic(auto)]
+
 ghost use Rattle.std.specs.Prelude.{◌+◌, ◌<◌, ◌≤◌};
 
 use libc::STDOUT_FILENO;

@@ -1,4 +1,6 @@
 // The types of document 01's plan, and one function over them. The definitions that give them their meaning are in specs/.
+#![tactic(auto)]
+
 ghost use Rattle.std.specs.Prelude.{◌≡◌, ltb};
 ghost use Rattle.tree.specs.Search.{if◌then◌else◌};
 

@@ -1,4 +1,6 @@
 // What an open would do, told from the lent array of a legal plan record. The nodes are counted and not built, and nothing is written.
+#![tactic(auto)]
+
 ghost use Rattle.std.specs.Prelude.{◌≡◌, true, ◌<◌};
 ghost use Rattle.tree.specs.Record.{path_at, legal};
 ghost use Rattle.tree.specs.Trial.{trial_outcome};
