@@ -18,21 +18,21 @@ pub mod rest;
 pub mod sheet;
 
 // A line that goes through a node, by its number.
-#[derive(Drop)]
+#[derive(Clone, Copy)]
 pub enum Through {
     Line(usize),
     Nothing,
 }
 
 // The owner of a round.
-#[derive(Drop)]
+#[derive(Clone, Copy)]
 pub enum Owner {
     Line(usize),
     Idle,
 }
 
 // The period and the start of a line.
-#[derive(Drop)]
+#[derive(Clone, Copy)]
 pub struct Times {
     pub period: Period,
     pub start: Start,

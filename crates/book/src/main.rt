@@ -11,7 +11,7 @@ use book_text::LONGEST_TEXT;
 use libc::{STDERR_FILENO, STDIN_FILENO, STDOUT_FILENO};
 
 // What reading standard input came to: how many bytes were read, and whether a read failed after them.
-#[derive(Drop)]
+#[derive(Clone, Copy)]
 struct Input {
     length: usize,
     failed: bool,

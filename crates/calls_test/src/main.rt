@@ -263,7 +263,7 @@ fn run_step(current: Plan, step: &[u8; 25]) -> Plan {
 }
 
 // The plan after the next step, and whether there was one.
-#[derive(Drop)]
+#[derive(Clone, Copy)]
 struct Next {
     more: bool,
     plan: Plan,

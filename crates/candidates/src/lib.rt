@@ -14,14 +14,14 @@ use tree::{Period, Start};
 pub mod edges;
 
 // What the search for a class finds: the smallest free one, or none.
-#[derive(Drop)]
+#[derive(Clone, Copy)]
 pub enum Class {
     Free(u16),
     Full,
 }
 
 // A candidate: the node at a level of a line's path, its offset and step, its divisor, and the class that is taken.
-#[derive(Drop)]
+#[derive(Clone, Copy)]
 pub struct Spot {
     pub line: usize,
     pub level: usize,
@@ -32,7 +32,7 @@ pub struct Spot {
 }
 
 // What the search for a candidate finds.
-#[derive(Drop)]
+#[derive(Clone, Copy)]
 pub enum Chosen {
     At(Spot),
     Nothing,

@@ -11,14 +11,14 @@ use plan::ask::OwnerAnswer;
 use tree::{Plan, Sheet};
 
 // One call's answer as a number, and the plan that it returned.
-#[derive(Drop)]
+#[derive(Clone, Copy)]
 pub struct CallResult {
     pub answer: u64,
     pub plan: Plan,
 }
 
 // How many calls were run, and the plan that the last of them left.
-#[derive(Drop)]
+#[derive(Clone, Copy)]
 pub struct Replayed {
     pub count: usize,
     pub plan: Plan,

@@ -8,7 +8,7 @@ use candidates::{Chosen, Spot};
 use tree::Period;
 
 // What an open finds before anything is written: the number with which it is refused, the root of an empty plan, or the chosen candidate.
-#[derive(Drop)]
+#[derive(Clone, Copy)]
 pub enum CheckedOpen {
     Refused(u8),
     Root,

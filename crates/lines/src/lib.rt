@@ -17,14 +17,14 @@ use tree::{Period, Start};
 pub mod check;
 
 // What an open answers: the start of the line that was booked, or the number with which it is refused.
-#[derive(Drop)]
+#[derive(Clone, Copy)]
 pub enum OpenAnswer {
     Booked(Start),
     Refused(u8),
 }
 
 // What a close answers.
-#[derive(Drop)]
+#[derive(Clone, Copy)]
 pub enum CloseAnswer {
     Done,
     Refused(u8),

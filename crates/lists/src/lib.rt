@@ -15,7 +15,7 @@ use orders::{Bytes, Reading};
 use tree::{Period, Plan, Start};
 
 // What one order of a list answers.
-#[derive(Drop)]
+#[derive(Clone, Copy)]
 pub enum OrderAnswer {
     Booked(Start),
     Done,
@@ -23,14 +23,14 @@ pub enum OrderAnswer {
 }
 
 // What the list itself answers.
-#[derive(Drop)]
+#[derive(Clone, Copy)]
 pub enum ListAnswer {
     Done,
     Refused(u8),
 }
 
 // What running a list gives: its answer, and the plan after it.
-#[derive(Drop)]
+#[derive(Clone, Copy)]
 pub struct ListResult {
     pub answer: ListAnswer,
     pub plan: Plan,

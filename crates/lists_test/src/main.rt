@@ -213,7 +213,7 @@ fn give(list: &mut [u8], given: usize) -> bool {
 }
 
 // The plan after a step, and whether there was one.
-#[derive(Drop)]
+#[derive(Clone, Copy)]
 struct Next {
     more: bool,
     plan: Plan,

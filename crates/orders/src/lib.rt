@@ -13,18 +13,18 @@ use tree::Period;
 pub mod round_trip;
 
 // Three bytes, the first one highest.
-#[derive(Drop)]
+#[derive(Clone, Copy)]
 pub struct Bytes(pub u8, pub u8, pub u8);
 
 // What packing answers.
-#[derive(Drop)]
+#[derive(Clone, Copy)]
 pub enum Packed {
     Order(Bytes),
     Refused(u8),
 }
 
 // What reading answers: the line and the period to open, the line to close, or a refusal.
-#[derive(Drop)]
+#[derive(Clone, Copy)]
 pub enum Reading {
     Open(u64, Period),
     Close(u64),
@@ -32,7 +32,7 @@ pub enum Reading {
 }
 
 // The fields of an order as its bits say.
-#[derive(Drop)]
+#[derive(Clone, Copy)]
 pub struct OrderFields {
     pub kind: u64,
     pub line: u64,

@@ -28,7 +28,7 @@ const LINES: [u64; 14] = [
 ];
 
 // How often each outcome came about, and a digest of what was read or packed.
-#[derive(Drop)]
+#[derive(Clone, Copy)]
 struct Counts {
     open: u64,
     close: u64,

@@ -8,14 +8,14 @@ ghost use Rattle.paths.specs.Rules.{same_node};
 ghost use Rattle.paths.specs.Answers.{lookup, rows_checked, path_checked, joins_earlier, line_legal};
 
 // What the lookup of a line finds: the number of rows of an open line's path.
-#[derive(Drop)]
+#[derive(Clone, Copy)]
 pub enum Found {
     At(usize),
     Nothing,
 }
 
 // What the check of a path answers: the number of its rows where it is in range.
-#[derive(Drop)]
+#[derive(Clone, Copy)]
 pub enum Checked {
     Rows(usize),
     Fault,

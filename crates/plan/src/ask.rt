@@ -14,28 +14,28 @@ use tree::{Period, Plan, Row, Start};
 
 // The owner of a round: a line by its number or, where there is none, how many rounds lie from the round to the next
 // owned one. Only in the empty plan are these 0.
-#[derive(Drop)]
+#[derive(Clone, Copy)]
 pub enum OwnerAnswer {
     Line(u64),
     Idle(u16),
 }
 
 // A line's period and start, or the number with which the call is refused.
-#[derive(Drop)]
+#[derive(Clone, Copy)]
 pub enum ShowAnswer {
     Times(Period, Start),
     Refused(u8),
 }
 
 // What show gives: its answer, and the line's path, all 0 where the call is refused.
-#[derive(Drop)]
+#[derive(Clone, Copy)]
 pub struct Showing {
     pub answer: ShowAnswer,
     pub rows: [Row; 11],
 }
 
 // The number of turns, or the number with which the call is refused.
-#[derive(Drop)]
+#[derive(Clone, Copy)]
 pub enum TurnsAnswer {
     Count(u64),
     Refused(u8),

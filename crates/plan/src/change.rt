@@ -12,14 +12,14 @@ use paths::Found;
 use tree::{Period, Plan};
 
 // What open gives: its answer, and the plan after it.
-#[derive(Drop)]
+#[derive(Clone, Copy)]
 pub struct Opening {
     pub answer: OpenAnswer,
     pub plan: Plan,
 }
 
 // What close gives.
-#[derive(Drop)]
+#[derive(Clone, Copy)]
 pub struct Closing {
     pub answer: CloseAnswer,
     pub plan: Plan,

@@ -32,7 +32,7 @@ pub fn trial(plan: Plan, line: u64, period: Period) -> TrialAnswer
 }
 
 // What a trial told, and what the open after it gave.
-#[derive(Drop)]
+#[derive(Clone, Copy)]
 pub struct TriedThenOpened {
     pub told: TrialAnswer,
     pub answer: OpenAnswer,

@@ -8,14 +8,14 @@ use crate::ask::OwnerAnswer;
 use tree::Plan;
 
 // The caller's own record: the next round, and how many of the rounds seen were owned.
-#[derive(Drop)]
+#[derive(Clone, Copy)]
 pub struct WalkerPlace {
     pub next: u64,
     pub owned: u64,
 }
 
 // The owner of the next round, or its rest where it is idle, or the number with which the call is refused.
-#[derive(Drop)]
+#[derive(Clone, Copy)]
 pub enum WalkAnswer {
     Line(u64),
     Idle(u16),
@@ -23,7 +23,7 @@ pub enum WalkAnswer {
 }
 
 // What a walker call gives: its answer, and the place after it.
-#[derive(Drop)]
+#[derive(Clone, Copy)]
 pub struct Walked {
     pub answer: WalkAnswer,
     pub place: WalkerPlace,

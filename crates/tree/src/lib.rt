@@ -5,29 +5,29 @@ ghost use Rattle.std.specs.Prelude.{◌≡◌, ltb};
 ghost use Rattle.tree.specs.Search.{if◌then◌else◌};
 
 // One row of a path: a node's weight, and the edge taken there.
-#[derive(Drop)]
+#[derive(Clone, Copy)]
 pub struct Row {
     pub weight: u16,
     pub edge: u16,
 }
 
 // A period in rounds. A type of its own, so that it is never taken for a start.
-#[derive(Drop)]
+#[derive(Clone, Copy)]
 pub struct Period(pub u16);
 
 // A start in rounds.
-#[derive(Drop)]
+#[derive(Clone, Copy)]
 pub struct Start(pub u16);
 
 // A plan of rounds: for each of the 64 lines its path, 11 rows of weight and edge.
 // Row k of line L stands at 22 * L + 2 * k; rows that are not used are 0 and 0.
-#[derive(Drop)]
+#[derive(Clone, Copy)]
 pub struct Plan {
     pub rows: [u16; 1408],
 }
 
 // A beamtime sheet (document 02, Ask 5): the turns of each of the 64 lines, 0 for a closed one, and the idle rounds.
-#[derive(Drop)]
+#[derive(Clone, Copy)]
 pub struct Sheet {
     pub turns: [u16; 64],
     pub idle: u16,

@@ -16,7 +16,7 @@ use paths::{edge, same_node, weight};
 use tree::{Period, Start};
 
 // The figures of an open that is not refused: its start, how many nodes it would add, and if it would split one.
-#[derive(Drop)]
+#[derive(Clone, Copy)]
 pub struct Trial {
     pub start: Start,
     pub added: u16,
@@ -24,7 +24,7 @@ pub struct Trial {
 }
 
 // What a trial answers: these figures, or the number with which the open would be refused.
-#[derive(Drop)]
+#[derive(Clone, Copy)]
 pub enum TrialAnswer {
     Fits(Trial),
     Refused(u8),
