@@ -17,7 +17,7 @@ use Rattle.tree.specs.Tree.{Tree, present, product, sum, period_of, start_of}
 use Rattle.tree.specs.Standing.{Stands}
 use Rattle.tree.specs.Asking.{owner, owned, rest, IsRest}
 use Rattle.tree.specs.Record.{path_at, no_rows, legal}
-use Rattle.bridge.specs.Rows.{plan_of, tree_of}
+use Rattle.bridge.specs.Rows.{plan_of, tree_of_rows}
 use Rattle.tree.proofs.UnderEdge.{stands_present}
 use Rattle.tree.proofs.Proper.{legal_proper}
 use Rattle.tree.proofs.Standing.{open_stands, stands_open, stands_by_path, start_below_period}
@@ -113,7 +113,7 @@ module _ {rows : List ℕ} {n least k : ℕ} (so_far : Nearest rows n least k) (
 
 module _ (rows : List ℕ) (is_legal : legal rows ≡ true) (n : ℕ) where
   abbrev t : Tree
-  t = tree_of rows
+  t = tree_of_rows rows
 
   -- an open line stands in the tree with the period and the start of its path
   stands_there : (M : ℕ) → M < 64 → no_rows (path_at rows M) ≡ false → Stands M t (product (path_at rows M)) (sum (path_at rows M))
@@ -159,7 +159,7 @@ module _ (rows : List ℕ) (is_legal : legal rows ≡ true) (n : ℕ) where
 
     -- no line is open: the rest is 0
     pub no_turn_rest : least ≡ 4095 → 0 ≡ rest n t
-    unfolding tree_of rest present
+    unfolding tree_of_rows rest present
     no_turn_rest None_found = sym (ap (rest n) (all_closed_nothing (plan_of rows) is_legal (closed_where_none None_found)))
 
     -- some line is: the nearest turn is the rest

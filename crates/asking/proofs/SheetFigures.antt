@@ -15,7 +15,7 @@ use Rattle.paths.specs.Rules.{owner_on_paths}
 use Rattle.tree.proofs.Totals.{count_at_most, count_more}
 use Rattle.tree.proofs.Ownership.{turns_at_most}
 use Rattle.tree.proofs.Sheets.{line_turns_are}
-use Rattle.bridge.specs.Rows.{tree_of}
+use Rattle.bridge.specs.Rows.{tree_of_rows}
 use Rattle.bridge.proofs.TreeOfRecord.{legal_on_record, open_on_record}
 use Rattle.bridge.proofs.AskingRecords.{owner_on_record}
 use Rattle.asking.specs.Turns.{turns_by_times}
@@ -25,22 +25,22 @@ module _ (rows : List ℕ) (is_legal : legal rows ≡ true) where
   -- A line's turns
 
   module _ (L : ℕ) (below : L < 64) (a N : ℕ) where
-    pub turns_of_closed : no_rows (path_at rows L) ≡ true → 0 ≡ line_turns L a N (tree_of rows)
+    pub turns_of_closed : no_rows (path_at rows L) ≡ true → 0 ≡ line_turns L a N (tree_of_rows rows)
     unfolding line_turns
     turns_of_closed closed = rw (open_on_record rows is_legal L below, closed)
 
     -- n was computed from the times of an open line
     module _ (there : no_rows (path_at rows L) ≡ false) {p s n : ℕ} (period_is : p ≡ product (path_at rows L)) (start_is : s ≡ sum (path_at rows L)) (turns_are : n ≡ turns_by_times p s a N) where
-      pub turns_of_open : (n ≡ line_turns L a N (tree_of rows)) × (n ≤ N)
+      pub turns_of_open : (n ≡ line_turns L a N (tree_of_rows rows)) × (n ≤ N)
       turns_of_open =
-          let listed = line_turns_are (tree_of rows) (legal_on_record rows) L a N in
+          let listed = line_turns_are (tree_of_rows rows) (legal_on_record rows) L a N in
           let counted = (rw (period_is, start_is) at turns_are) ∙ sym (turns_on_record rows is_legal L below there a N) in
-          (counted ∙ sym listed, omega (arith, turns_at_most L a N (tree_of rows)))
+          (counted ∙ sym listed, omega (arith, turns_at_most L a N (tree_of_rows rows)))
 
   -- Whether a round is idle
 
   -- o is what the walk found
-  pub owned_by_walk : (n : ℕ) (o : Option ℕ) → o ≡ owner_on_paths (path_at rows) n → owned n (tree_of rows) ≡ found o
+  pub owned_by_walk : (n : ℕ) (o : Option ℕ) → o ≡ owner_on_paths (path_at rows) n → owned n (tree_of_rows rows) ≡ found o
   unfolding owned
   owned_by_walk n o walked = sym (ap found (walked ∙ owner_on_record rows is_legal n))
 

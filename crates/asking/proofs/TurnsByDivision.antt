@@ -14,7 +14,7 @@ use Rattle.tree.specs.Tree.{Tree, product, sum, is_open, period_of, start_of}
 use Rattle.tree.specs.Shape.{Legal}
 use Rattle.tree.specs.Asking.{turns}
 use Rattle.tree.specs.Record.{path_at, no_rows, legal}
-use Rattle.bridge.specs.Rows.{tree_of}
+use Rattle.bridge.specs.Rows.{tree_of_rows}
 use Rattle.tree.proofs.Proper.{legal_proper}
 use Rattle.tree.proofs.Standing.{open_stands, start_below_period}
 use Rattle.tree.proofs.Ownership.{owns_by_times}
@@ -137,8 +137,8 @@ turns_by_division t is_legal L there a N =
 
 -- of a line of a legal record, by the product and the sum of its path
 pub turns_on_record : (rows : List ℕ) → legal rows ≡ true → (L : ℕ) → L < 64 → no_rows (path_at rows L) ≡ false → (a N : ℕ) →
-    turns L a N (tree_of rows) ≡ turns_by_times (product (path_at rows L)) (sum (path_at rows L)) a N
+    turns L a N (tree_of_rows rows) ≡ turns_by_times (product (path_at rows L)) (sum (path_at rows L)) a N
 unfolding period_of start_of
 turns_on_record rows is_legal L below there a N =
     rw (← paths_on_record rows is_legal L below) at
-    (turns_by_division (tree_of rows) (legal_on_record rows) L (open_by_rows rows is_legal L (omega arith) false there) a N)
+    (turns_by_division (tree_of_rows rows) (legal_on_record rows) L (open_by_rows rows is_legal L (omega arith) false there) a N)

@@ -6,7 +6,7 @@ ghost use Rattle.std.specs.Prelude.{◌≡◌, true, suc, ◌+◌, ◌/◌, ◌%
 ghost use Rattle.tree.specs.Tree.{product, sum};
 ghost use Rattle.tree.specs.Asking.{rows_11};
 ghost use Rattle.tree.specs.Record.{path_at, legal};
-ghost use Rattle.bridge.specs.Rows.{tree_of};
+ghost use Rattle.bridge.specs.Rows.{tree_of_rows};
 ghost use Rattle.paths.specs.Rules.{line_under, walk_on_paths, owner_on_paths};
 ghost use Rattle.asking.specs.Answers.{line_through, takes_edge, first_open, owner_answered};
 ghost use Rattle.asking.specs.Visits.{Visits};
@@ -113,7 +113,7 @@ fn walk(
     round: u64,
     ahead: u16,
 ) -> Owner
-    requires { Visits (tree_of rows.now) line level step (round + ahead) }
+    requires { Visits (tree_of_rows rows.now) line level step (round + ahead) }
     ensures { owner_answered result ≡ walk_on_paths (path_at rows.now) left line level ((round + ahead) / step) }
 {
     if left == 0 {

@@ -2,7 +2,7 @@
 ghost use Rattle.std.specs.Prelude.{◌≡◌, true, ◌<◌};
 ghost use Rattle.tree.specs.Asking.{rest};
 ghost use Rattle.tree.specs.Record.{path_at, legal};
-ghost use Rattle.bridge.specs.Rows.{tree_of};
+ghost use Rattle.bridge.specs.Rows.{tree_of_rows};
 ghost use Rattle.asking.specs.Turns.{nearer_turn};
 
 use crate::{times_of, until_turn};
@@ -26,7 +26,7 @@ fn nearer_turn(rows: &[u16; 1408], line: usize, round: u64, least: u64) -> u64
 // so far.
 pub fn rest_of(rows: &[u16; 1408], round: u64) -> u16
     requires { legal rows.now ≡ true }
-    ensures { result ≡ rest round (tree_of rows.now) }
+    ensures { result ≡ rest round (tree_of_rows rows.now) }
 {
     let mut least: u64 = 4095;
     let mut line = 0;

@@ -4,7 +4,7 @@ ghost use Rattle.tree.specs.Search.{if◌then◌else◌, each_below};
 ghost use Rattle.tree.specs.Asking.{owned};
 ghost use Rattle.tree.specs.Sheet.{line_turns, idle_rounds, sheet};
 ghost use Rattle.tree.specs.Record.{legal};
-ghost use Rattle.bridge.specs.Rows.{tree_of};
+ghost use Rattle.bridge.specs.Rows.{tree_of_rows};
 
 use crate::{Owner, owner_of, times_of, turns_of};
 use tree::Sheet;
@@ -12,7 +12,7 @@ use tree::Sheet;
 // The turns of a line among so many rounds that begin with `first`. A closed line has none.
 fn line_turns(rows: &[u16; 1408], line: usize, first: u64, rounds: u16) -> u16
     requires { (legal rows.now ≡ true) × (line < 64) }
-    ensures { result ≡ line_turns line first rounds (tree_of rows.now) }
+    ensures { result ≡ line_turns line first rounds (tree_of_rows rows.now) }
 {
     if paths::is_closed(rows, line) {
         return 0;
@@ -22,7 +22,7 @@ fn line_turns(rows: &[u16; 1408], line: usize, first: u64, rounds: u16) -> u16
 
 fn turns_of_lines(rows: &[u16; 1408], first: u64, rounds: u16) -> [u16; 64]
     requires { legal rows.now ≡ true }
-    ensures { result ≡ each_below 64 (λ L. line_turns L first rounds (tree_of rows.now)) }
+    ensures { result ≡ each_below 64 (λ L. line_turns L first rounds (tree_of_rows rows.now)) }
 {
     let mut turns = [0; 64];
     let mut line = 0;
@@ -36,7 +36,7 @@ fn turns_of_lines(rows: &[u16; 1408], first: u64, rounds: u16) -> [u16; 64]
 // 1 where round first + ahead is idle, else 0.
 fn idle_at(rows: &[u16; 1408], first: u64, ahead: u16) -> u16
     requires { legal rows.now ≡ true }
-    ensures { result ≡ (if not (owned (first + ahead) (tree_of rows.now)) then 1 else 0) }
+    ensures { result ≡ (if not (owned (first + ahead) (tree_of_rows rows.now)) then 1 else 0) }
 {
     let found = owner_of(rows, first, ahead);
     match found {
@@ -48,7 +48,7 @@ fn idle_at(rows: &[u16; 1408], first: u64, ahead: u16) -> u16
 // The idle rounds among so many that begin with `first`, those past 2^64 included.
 fn idle_rounds(rows: &[u16; 1408], first: u64, rounds: u16) -> u16
     requires { legal rows.now ≡ true }
-    ensures { result ≡ idle_rounds first rounds (tree_of rows.now) }
+    ensures { result ≡ idle_rounds first rounds (tree_of_rows rows.now) }
 {
     let mut idle: u16 = 0;
     let mut ahead: u16 = 0;
@@ -62,7 +62,7 @@ fn idle_rounds(rows: &[u16; 1408], first: u64, rounds: u16) -> u16
 // The sheet of so many rounds that begin with `first`.
 pub fn sheet_of(rows: &[u16; 1408], first: u64, rounds: u16) -> Sheet
     requires { legal rows.now ≡ true }
-    ensures { result ≡ sheet first rounds (tree_of rows.now) }
+    ensures { result ≡ sheet first rounds (tree_of_rows rows.now) }
 {
     let turns = turns_of_lines(rows, first, rounds);
     let idle = idle_rounds(rows, first, rounds);

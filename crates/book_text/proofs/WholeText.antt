@@ -14,8 +14,8 @@ use Rattle.tree.specs.declared.Plan.{Plan}
 use Rattle.tree.specs.Search.{if◌then◌else◌}
 use Rattle.tree.specs.Tree.{Tree, nothing, path, path_of}
 use Rattle.tree.specs.Asking.{rows_11}
-use Rattle.tree.specs.Record.{tree_of, recordOf, numbers, numbers_below}
-use Rattle.bridge.specs.Rows.{tree_of}
+use Rattle.tree.specs.Record.{tree_of, record_of, numbers, numbers_below}
+use Rattle.bridge.specs.Rows.{tree_of_rows}
 use Rattle.bridge.proofs.CarriedLegal.{empty_recorded}
 use Rattle.lists.specs.Lists.{orders_of, order_after, list_answers, answer_bytes, length_refused, room_refused, list_refusal}
 use Rattle.lists.specs.Runs.{bytes_after, bytes_after_list, ListRan}
@@ -29,7 +29,7 @@ use Rattle.book_text.proofs.TextLength.{book_text_length}
 -- The list on the empty plan
 
 pub empty_plan : tree_of (record { rows = replicate 1408 0 }) ≡ nothing
-unfolding tree_of recordOf numbers_below numbers rows_11 path_of path
+unfolding tree_of_rows record_of numbers_below numbers rows_11 path_of path
 empty_plan = empty_recorded.tree_is
 
 answered_length : (t : Tree) (ns : List ℕ) → length (answer_bytes (list_answers t ns)) ≡ 2 * length ns

@@ -14,7 +14,7 @@ use Rattle.tree.specs.Search.{if◌then◌else◌}
 use Rattle.tree.specs.Tree.{Tree, present, path, path_of, step}
 use Rattle.tree.specs.Opening.{divisor, opened, start_in, start_given}
 use Rattle.tree.specs.Asking.{rows_11}
-use Rattle.tree.specs.Record.{path_at, legal, tree_of, numbers, recordOf}
+use Rattle.tree.specs.Record.{path_at, legal, tree_of, numbers, record_of}
 use Rattle.paths.specs.Rules.{row_of, same_node, Spot, place_of, split_path, split_lines, booked_path, booked_at}
 use Rattle.tree.proofs.Standing.{path_stands}
 use Rattle.tree.proofs.UnderEdge.{stands_present}
@@ -23,7 +23,7 @@ use Rattle.paths.proofs.SameNode.{same_node_none}
 use Rattle.paths.proofs.SplitLines.{split_lines_length, block_split}
 use Rattle.paths.proofs.Blocks.{block}
 use Rattle.bridge.proofs.RecordBlocks.{set_line_record}
-use Rattle.bridge.proofs.TreeOfRecord.{treeOf_paths}
+use Rattle.bridge.proofs.TreeOfRecord.{tree_of_paths}
 use Rattle.bridge.proofs.NodesOnPaths.{same_node_exactly}
 use Rattle.bridge.proofs.ClassOnPaths.{path_family, family_path}
 use Rattle.bridge.proofs.SearchOnPaths.{FoundSpot}
@@ -49,7 +49,7 @@ module _ (plan : Plan) (L p : ℕ) (s : Spot) (is_legal : legal plan.rows ≡ tr
   path_after rs = if same_node s.level ps rs then (if ltb s.divisor weight then split_path s.level s.divisor rs else rs) else rs
 
   line_path : path s.line t ≡ some ps
-  line_path = family_path t (path_at plan.rows) (treeOf_paths plan is_legal) s.line s.level found_spot.line_below found_spot.level_below
+  line_path = family_path t (path_at plan.rows) (tree_of_paths plan is_legal) s.line s.level found_spot.line_below found_spot.level_below
 
   -- what a line through the node becomes, by the spot's own divisor
   pub through_path : (M : ℕ) (rs : List Row) → path M t ≡ some rs → same_node s.level ps rs ≡ true →
@@ -85,11 +85,11 @@ module _ (plan : Plan) (L p : ℕ) (s : Spot) (is_legal : legal plan.rows ≡ tr
     where
       by_path : (o : Option (List Row)) → path M t ≡ o → get_or (path M (opened L p t)) [] ≡ path_after (path_at plan.rows M)
       by_path none e =
-          let empty : path_at plan.rows M ≡ [] = treeOf_paths plan is_legal M below ∙ ap (λ (o : Option (List Row)). get_or o []) e in
+          let empty : path_at plan.rows M ≡ [] = tree_of_paths plan is_legal M below ∙ ap (λ (o : Option (List Row)). get_or o []) e in
           ap (λ (o : Option (List Row)). get_or o []) (opened_path_none L p t may M other e)
           ∙ sym (ap path_after empty ∙ path_after_beside [] (same_node_none s.level ps))
       by_path (some rs) e =
-          let same = path_family t (path_at plan.rows) (treeOf_paths plan is_legal) M rs below e in
+          let same = path_family t (path_at plan.rows) (tree_of_paths plan is_legal) M rs below e in
           ap (λ (o : Option (List Row)). get_or o []) (open_path_after M rs e) ∙ ap path_after (sym same)
 
   pub new_line_path : path L (opened L p t) ≡ some (booked_path (take s.level ps) s.divisor s.class (p / (s.step * s.divisor)))
@@ -140,7 +140,7 @@ module _ (plan : Plan) (L p : ℕ) (s : Spot) (is_legal : legal plan.rows ≡ tr
       path_of_block split_rows M (path_after (path_at plan.rows M))
       (subst Written (other_path M below other) (path_of_written (opened L p t) (opened_legal L p t may) M)) (block_before M below)
 
-  pub booked_record : booked_at plan.rows L p s ≡ (recordOf (opened L p t)).rows
+  pub booked_record : booked_at plan.rows L p s ≡ (record_of (opened L p t)).rows
   unfolding booked_at
   booked_record =
       set_line_record split_rows L _ (opened L p t) (omega (arith, may.number_in_range)) split_rows_length (sym new_path) λ M below other.

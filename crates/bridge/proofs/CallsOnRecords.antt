@@ -13,13 +13,13 @@ use Rattle.tree.specs.Opening.{opened, start_given}
 use Rattle.tree.specs.Closing.{closed}
 use Rattle.tree.specs.Refusals.{no_room, period_out_of_range, open_refusal}
 use Rattle.tree.specs.Calls.{Call, open_line, close_line, booked, done, refused, refusal, reply, carried_out, answer_unless, answer}
-use Rattle.tree.specs.Record.{path_at, no_rows, legal, recordOf}
+use Rattle.tree.specs.Record.{path_at, no_rows, legal, record_of}
 use Rattle.paths.specs.Rules.{Spot, best_of_lines, set_line, booked_at}
 use Rattle.tree.proofs.UnderEdge.{stands_present}
 use Rattle.tree.proofs.Standing.{open_stands}
 use Rattle.tree.proofs.Checks.{open_last_check, close_allowed, open_may}
 use Rattle.tree.proofs.Opening.{MayOpen, start_empty}
-use Rattle.bridge.specs.Rows.{tree_of, rows_unless, rows_after, CarriedOut}
+use Rattle.bridge.specs.Rows.{tree_of_rows, rows_unless, rows_after, CarriedOut}
 use Rattle.bridge.proofs.TreeOfRecord.{legal_on_record, paths_on_record, open_on_record}
 use Rattle.bridge.proofs.ClosedRecord.{closed_record}
 use Rattle.bridge.proofs.FirstRecord.{AllClosed, all_closed_nothing, first_record}
@@ -28,31 +28,31 @@ use Rattle.bridge.proofs.BookedRecord.{booked_record, booked_start}
 
 -- A call that is refused, and one that is not
 
-pub refused_on : (c : Call) (rows : List ℕ) (n : ℕ) → refusal c (tree_of rows) ≡ some n → CarriedOut c rows rows (refused n)
+pub refused_on : (c : Call) (rows : List ℕ) (n : ℕ) → refusal c (tree_of_rows rows) ≡ some n → CarriedOut c rows rows (refused n)
 unfolding answer answer_unless rows_after rows_unless
 refused_on c rows n h = record { answer_is = rw h; rows_are = rw h }
 
-carried_on : (c : Call) (rows after : List ℕ) → refusal c (tree_of rows) ≡ none → after ≡ (recordOf (carried_out c (tree_of rows))).rows → CarriedOut c rows after (reply c (tree_of rows))
+carried_on : (c : Call) (rows after : List ℕ) → refusal c (tree_of_rows rows) ≡ none → after ≡ (record_of (carried_out c (tree_of_rows rows))).rows → CarriedOut c rows after (reply c (tree_of_rows rows))
 unfolding answer answer_unless rows_after rows_unless
 carried_on c rows after h same = record { answer_is = rw h; rows_are = rw h same }
 
 -- a line is open, and no node is a candidate
-pub no_room_on : (rows : List ℕ) (p M : ℕ) → legal rows ≡ true → M < 64 → no_rows (path_at rows M) ≡ false → best_of_lines (path_at rows) p 64 ≡ none → no_room p (tree_of rows) ≡ true
+pub no_room_on : (rows : List ℕ) (p M : ℕ) → legal rows ≡ true → M < 64 → no_rows (path_at rows M) ≡ false → best_of_lines (path_at rows) p 64 ≡ none → no_room p (tree_of_rows rows) ≡ true
 unfolding no_room found
 no_room_on rows p M is_legal below there None_found =
-    let t = tree_of rows in
+    let t = tree_of_rows rows in
     let here = stands_present M t _ _ (open_stands M t (open_on_record rows is_legal M below ∙ ap not there)) in
     let none_chosen = search_none t (legal_on_record rows) (path_at rows) (paths_on_record rows is_legal) p None_found in
     rw (here, none_chosen)
 
 module _ (rows : List ℕ) (is_legal : legal rows ≡ true) (long : length rows ≡ 1408) where
   abbrev t : Tree
-  t = tree_of rows
+  t = tree_of_rows rows
 
   -- Close
 
   pub close_on : (L : ℕ) → L ≤ 63 → no_rows (path_at rows L) ≡ false → CarriedOut (close_line L) rows (set_line rows L []) done
-  unfolding refusal reply carried_out tree_of
+  unfolding refusal reply carried_out tree_of_rows
   close_on L number there =
       carried_on (close_line L) rows (set_line rows L [])
       (close_allowed L t number (open_on_record rows is_legal L (omega arith) ∙ ap not there))
@@ -70,7 +70,7 @@ module _ (rows : List ℕ) (is_legal : legal rows ≡ true) (long : length rows 
 
     module _ (closed : AllClosed rows) where
       empty : t ≡ nothing
-      unfolding tree_of
+      unfolding tree_of_rows
       empty = all_closed_nothing (record { rows = rows }) is_legal closed
 
       pub first_not_refused : open_refusal L p t ≡ none
@@ -78,11 +78,11 @@ module _ (rows : List ℕ) (is_legal : legal rows ≡ true) (long : length rows 
       first_not_refused = last_check ∙ ap (λ (x : Tree). if no_room p x then some 5 else none) empty
 
       pub open_first_on : 0 < p → CarriedOut (open_line L p) rows (set_line rows L (row p 0 ∷ [])) (booked 0)
-      unfolding refusal reply carried_out tree_of
+      unfolding refusal reply carried_out tree_of_rows
       open_first_on positive =
           subst (λ (a : ℕ). CarriedOut (open_line L p) rows (set_line rows L (row p 0 ∷ [])) (booked a)) (ap (start_given p) empty ∙ start_empty p)
           (carried_on (open_line L p) rows (set_line rows L (row p 0 ∷ [])) first_not_refused
-          (first_record (record { rows = rows }) L p (omega arith) positive is_legal long closed ∙ ap (λ (x : Tree). (recordOf (opened L p x)).rows) (sym empty)))
+          (first_record (record { rows = rows }) L p (omega arith) positive is_legal long closed ∙ ap (λ (x : Tree). (record_of (opened L p x)).rows) (sym empty)))
 
     module _ (s : Spot) (found_one : best_of_lines (path_at rows) p 64 ≡ some s) where
       pub spot_found : FoundSpot p t (path_at rows) s
@@ -99,7 +99,7 @@ module _ (rows : List ℕ) (is_legal : legal rows ≡ true) (long : length rows 
       may_open = open_may L p t (legal_on_record rows) not_refused
 
       pub open_booked_on : CarriedOut (open_line L p) rows (booked_at rows L p s) (booked (s.offset + s.class * s.step))
-      unfolding refusal reply carried_out tree_of
+      unfolding refusal reply carried_out tree_of_rows
       open_booked_on =
           subst (λ (a : ℕ). CarriedOut (open_line L p) rows (booked_at rows L p s) (booked a))
           (sym (booked_start (record { rows = rows }) L p s is_legal long may_open spot_found))

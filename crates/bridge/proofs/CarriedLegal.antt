@@ -8,11 +8,11 @@ use mathlib.Core.Option.{Option, none, some}
 use Rattle.tree.specs.Tree.{Tree, nothing}
 use Rattle.tree.specs.Shape.{Legal}
 use Rattle.tree.specs.Calls.{Call, open_line, close_line, Answer, refusal, carried_out, tree_unless, after}
-use Rattle.tree.specs.Record.{legal, recordOf}
+use Rattle.tree.specs.Record.{legal, record_of}
 use Rattle.tree.proofs.Checks.{open_may}
 use Rattle.tree.proofs.Opening.{opened_legal}
 use Rattle.tree.proofs.Closing.{closed_legal}
-use Rattle.bridge.specs.Rows.{tree_of, rows_unless, rows_after, CarriedOut, LegalWith}
+use Rattle.bridge.specs.Rows.{tree_of_rows, rows_unless, rows_after, CarriedOut, LegalWith}
 use Rattle.bridge.proofs.TreeOfRecord.{legal_on_record}
 use Rattle.bridge.proofs.RecordRoundTrip.{record_legal, record_has_tree}
 
@@ -22,23 +22,23 @@ unfolding refusal carried_out
 carried_out_legal (open_line L p) t is_legal allowed = opened_legal L p t (open_may L p t is_legal allowed)
 carried_out_legal (close_line L) t is_legal allowed = closed_legal L t is_legal
 
-recorded : (t : Tree) → Legal t → LegalWith (recordOf t).rows t
-unfolding tree_of
+recorded : (t : Tree) → Legal t → LegalWith (record_of t).rows t
+unfolding tree_of_rows
 recorded t is_legal = record { is_legal = record_legal t is_legal; tree_is = record_has_tree t is_legal }
 
 -- the record of the empty plan
-pub empty_recorded : LegalWith (recordOf nothing).rows nothing
+pub empty_recorded : LegalWith (record_of nothing).rows nothing
 unfolding Legal
 empty_recorded = recorded nothing tt
 
-pub carried_legal : (c : Call) (before left : List ℕ) (a : Answer) → legal before ≡ true → CarriedOut c before left a → LegalWith left (after c (tree_of before))
+pub carried_legal : (c : Call) (before left : List ℕ) (a : Answer) → legal before ≡ true → CarriedOut c before left a → LegalWith left (after c (tree_of_rows before))
 unfolding after tree_unless rows_after rows_unless
 carried_legal c before left a is_legal carried = rw carried.rows_are (by_refusal (refusal c t) refl)
   where
     t : Tree
-    t = tree_of before
+    t = tree_of_rows before
 
     by_refusal : (o : Option ℕ) → refusal c t ≡ o →
-        LegalWith (rows_unless o before (recordOf (carried_out c t)).rows) (tree_unless o t (carried_out c t))
+        LegalWith (rows_unless o before (record_of (carried_out c t)).rows) (tree_unless o t (carried_out c t))
     by_refusal (some n) e = record { is_legal = is_legal; tree_is = refl }
     by_refusal none e = recorded (carried_out c t) (carried_out_legal c t (legal_on_record before) e)

@@ -11,13 +11,13 @@ use Rattle.tree.specs.declared.Plan.{Plan}
 use Rattle.tree.specs.Tree.{Tree, path_of}
 use Rattle.tree.specs.Asking.{rows_11}
 use Rattle.tree.specs.Closing.{closed}
-use Rattle.tree.specs.Record.{path_at, legal, tree_of, numbers, recordOf}
+use Rattle.tree.specs.Record.{path_at, legal, tree_of, numbers, record_of}
 use Rattle.paths.specs.Rules.{set_line}
 use Rattle.paths.proofs.LegalLines.{legal_rest_unused}
 use Rattle.paths.proofs.Blocks.{block}
 use Rattle.bridge.proofs.RecordBlocks.{set_line_record}
 use Rattle.bridge.proofs.BlockPaths.{block_of_path}
-use Rattle.bridge.proofs.TreeOfRecord.{treeOf_legal, treeOf_path_of}
+use Rattle.bridge.proofs.TreeOfRecord.{tree_of_legal, tree_of_path_of}
 use Rattle.bridge.proofs.RouteClosing.{closed_path_other, closed_path_gone}
 
 -- A legal record, block by block
@@ -28,17 +28,17 @@ legal_block rows M is_legal long below = block_of_path rows M below long (legal_
 pub block_of_tree : (plan : Plan) (M : ℕ) → legal plan.rows ≡ true → length plan.rows ≡ 1408 → M < 64 → block plan.rows M ≡ numbers (rows_11 (path_of M (tree_of plan)))
 block_of_tree plan M is_legal long below =
     legal_block plan.rows M is_legal long below
-    ∙ ap (λ (rs : List Row). numbers (rows_11 rs)) (sym (treeOf_path_of plan M is_legal below))
+    ∙ ap (λ (rs : List Row). numbers (rows_11 rs)) (sym (tree_of_path_of plan M is_legal below))
 
 -- The closed tree
 
 pub closed_record : (plan : Plan) (L : ℕ) → L < 64 → legal plan.rows ≡ true → length plan.rows ≡ 1408 →
-    set_line plan.rows L [] ≡ (recordOf (closed L (tree_of plan))).rows
+    set_line plan.rows L [] ≡ (record_of (closed L (tree_of plan))).rows
 unfolding path_of
 closed_record plan L below is_legal long =
     set_line_record plan.rows L [] (closed L t) below long (ap (λ (o : Option (List Row)). get_or o []) (sym (closed_path_gone L t))) λ M M_below other.
     block_of_tree plan M is_legal long M_below
-    ∙ ap (λ (o : Option (List Row)). numbers (rows_11 (get_or o []))) (sym (closed_path_other L M t (treeOf_legal plan) other))
+    ∙ ap (λ (o : Option (List Row)). numbers (rows_11 (get_or o []))) (sym (closed_path_other L M t (tree_of_legal plan) other))
   where
     t : Tree
     t = tree_of plan

@@ -12,7 +12,7 @@ use Rattle.tree.specs.declared.Plan.{Plan}
 use Rattle.tree.specs.Tree.{nothing, row, path_of}
 use Rattle.tree.specs.Opening.{opened}
 use Rattle.tree.specs.Asking.{rows_11}
-use Rattle.tree.specs.Record.{path_at, no_rows, legal, grown, tree_of, numbers, recordOf}
+use Rattle.tree.specs.Record.{path_at, no_rows, legal, grown, tree_of, numbers, record_of}
 use Rattle.paths.specs.Rules.{set_line}
 use Rattle.paths.proofs.RowLaws.{no_rows_empty}
 use Rattle.bridge.proofs.RecordBlocks.{set_line_record}
@@ -33,7 +33,7 @@ unfolding tree_of
 all_closed_nothing plan is_legal closed = rw is_legal (grown_nothing plan.rows 64 (omega arith) closed)
 
 pub first_record : (plan : Plan) (L p : ℕ) → L < 64 → 0 < p → legal plan.rows ≡ true → length plan.rows ≡ 1408 → AllClosed plan.rows →
-    set_line plan.rows L (row p 0 ∷ []) ≡ (recordOf (opened L p nothing)).rows
+    set_line plan.rows L (row p 0 ∷ []) ≡ (record_of (opened L p nothing)).rows
 unfolding path_of AllClosed
 first_record plan L p below positive is_legal long closed =
     set_line_record rows L (row p 0 ∷ []) (opened L p nothing) below long (ap (λ (o : Option (List Row)). get_or o []) (sym (opened_path_empty L p positive))) λ M M_below other.

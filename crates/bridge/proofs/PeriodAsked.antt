@@ -15,7 +15,7 @@ use Rattle.tree.specs.Refusals.{open_refusal}
 use Rattle.tree.specs.Calls.{open_line, Answer, refusal, answer_unless, answer, gives_unless}
 use Rattle.tree.specs.Trial.{trial_outcome}
 use Rattle.tree.proofs.Checks.{open_refused_1, open_refused_2, above_out_of_range}
-use Rattle.bridge.specs.Rows.{tree_of, rows_unless, rows_after, CarriedOut}
+use Rattle.bridge.specs.Rows.{tree_of_rows, rows_unless, rows_after, CarriedOut}
 
 -- 4,096 and every period above 4,095 are refused alike, with 1 or 2
 refused_alike : (L p : ℕ) (t : Tree) → 4095 < p → (n : ℕ) × (open_refusal L 4096 t ≡ some n) × (open_refusal L p t ≡ some n)
@@ -39,7 +39,7 @@ period_stands_for L p before after a = by_test (ltb 4095 p) refl
     by_test : (b : Bool) → ltb 4095 p ≡ b → CarriedOut (open_line L (if b then 4096 else p)) before after a → CarriedOut (open_line L p) before after a
     by_test false e carried = carried
     by_test true e carried =
-        let alike = refused_alike L p (tree_of before) (ltb-true 4095 p e) in
+        let alike = refused_alike L p (tree_of_rows before) (ltb-true 4095 p e) in
         record { answer_is = rw alike.2 (rw alike.1 at carried.answer_is); rows_are = rw alike.2 (rw alike.1 at carried.rows_are) }
 
 pub trial_stands_for : (L p : ℕ) (t : Tree) → trial_outcome L (if ltb 4095 p then 4096 else p) t ≡ trial_outcome L p t

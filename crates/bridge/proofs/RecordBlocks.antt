@@ -10,7 +10,7 @@ use lib.ListN.{length, length-append}
 use Rattle.tree.specs.declared.Row.{Row}
 use Rattle.tree.specs.Tree.{Tree, path_of}
 use Rattle.tree.specs.Asking.{rows_11}
-use Rattle.tree.specs.Record.{numbers, numbers_below, recordOf}
+use Rattle.tree.specs.Record.{numbers, numbers_below, record_of}
 use Rattle.paths.specs.Rules.{set_line}
 use Rattle.tree.proofs.Searching.{last_or_below}
 use Rattle.paths.proofs.Blocks.{block, block_of_path_length, block_at_end, block_of_front, set_line_length, block_set_line_same, block_set_line_other, rows_by_blocks}
@@ -29,19 +29,19 @@ block_of_numbers_below (suc n) t L below =
       | inr k ↦ block_of_front (numbers_below n t) _ L (omega (arith, numbers_below_length n t)) ∙ block_of_numbers_below n t L k
     ]
 
-pub record_length : (t : Tree) → length (recordOf t).rows ≡ 1408
-unfolding recordOf
+pub record_length : (t : Tree) → length (record_of t).rows ≡ 1408
+unfolding record_of
 record_length t = numbers_below_length 64 t
 
-pub block_of_record : (t : Tree) (L : ℕ) → L < 64 → block (recordOf t).rows L ≡ numbers (rows_11 (path_of L t))
-unfolding recordOf
+pub block_of_record : (t : Tree) (L : ℕ) → L < 64 → block (record_of t).rows L ≡ numbers (rows_11 (path_of L t))
+unfolding record_of
 block_of_record t L below = block_of_numbers_below 64 t L below
 
 -- where line L's path is written, and every other line's block is that of its path in the tree, the record is the tree's
 pub set_line_record : (start : List ℕ) (L : ℕ) (rs : List Row) (t : Tree) → L < 64 → length start ≡ 1408 → rs ≡ path_of L t →
-    ((M : ℕ) → M < 64 → (M ≡ L → ⊥) → block start M ≡ numbers (rows_11 (path_of M t))) → set_line start L rs ≡ (recordOf t).rows
+    ((M : ℕ) → M < 64 → (M ≡ L → ⊥) → block start M ≡ numbers (rows_11 (path_of M t))) → set_line start L rs ≡ (record_of t).rows
 set_line_record start L rs t below long new others =
-    rows_by_blocks (set_line start L rs) (recordOf t).rows (set_line_length start L rs below long) (record_length t) λ M M_below.
+    rows_by_blocks (set_line start L rs) (record_of t).rows (set_line_length start L rs below long) (record_length t) λ M M_below.
     each M M_below (ℕ_discrete M L) ∙ sym (block_of_record t M M_below)
   where
     each : (M : ℕ) → M < 64 → Dec (M ≡ L) → block (set_line start L rs) M ≡ numbers (rows_11 (path_of M t))

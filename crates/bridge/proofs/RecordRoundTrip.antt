@@ -14,7 +14,7 @@ use Rattle.tree.specs.declared.Plan.{Plan}
 use Rattle.tree.specs.Search.{if◌then◌else◌, all_below}
 use Rattle.tree.specs.Tree.{Tree, nothing, line, node, product, sum, path, path_of}
 use Rattle.tree.specs.Shape.{Legal}
-use Rattle.tree.specs.Record.{path_at, rows_in_range, alone, path_in_range, rest_unused, no_rows, parts, together, legal, tree_of, recordOf}
+use Rattle.tree.specs.Record.{path_at, rows_in_range, alone, path_in_range, rest_unused, no_rows, parts, together, legal, tree_of, record_of}
 use Rattle.tree.proofs.Searching.{all_below_each}
 use Rattle.tree.proofs.Proper.{legal_proper}
 use Rattle.tree.proofs.Depth.{at_most_11_above}
@@ -25,7 +25,7 @@ use Rattle.paths.proofs.Blocks.{rows_by_blocks}
 use Rattle.bridge.proofs.RecordBlocks.{record_length, block_of_record}
 use Rattle.bridge.proofs.BlockPaths.{path_of_block, rest_unused_of_block}
 use Rattle.bridge.proofs.SameTree.{same_paths_same_tree}
-use Rattle.bridge.proofs.TreeOfRecord.{treeOf_legal, treeOf_path, treeOf_path_beyond}
+use Rattle.bridge.proofs.TreeOfRecord.{tree_of_legal, tree_of_path, tree_of_path_beyond}
 use Rattle.paths.proofs.RangeLaws.{EdgesBelow, path_edges_below}
 use Rattle.bridge.proofs.LegalPaths.{legal_path_in_range, paths_part}
 use Rattle.bridge.proofs.ClosedRecord.{block_of_tree}
@@ -96,15 +96,15 @@ module _ (t : Tree) (is_legal : Legal t) where
   -- The record of the tree
 
   -- its paths are those of the tree
-  pub record_path : (M : ℕ) → M < 64 → path_at (recordOf t).rows M ≡ path_of M t
-  record_path M below = path_of_block (recordOf t).rows M (path_of M t) (path_of_written M) (block_of_record t M below)
+  pub record_path : (M : ℕ) → M < 64 → path_at (record_of t).rows M ≡ path_of M t
+  record_path M below = path_of_block (record_of t).rows M (path_of M t) (path_of_written M) (block_of_record t M below)
 
-  pub record_legal : legal (recordOf t).rows ≡ true
+  pub record_legal : legal (record_of t).rows ≡ true
   unfolding legal
   record_legal = (and-eq-true_iff _ _).1 (all_below_each 64 _ each, all_below_each 64 _ pairs)
     where
       rows : List ℕ
-      rows = (recordOf t).rows
+      rows = (record_of t).rows
 
       each : (L : ℕ) → L < 64 → (path_in_range (path_at rows L) && rest_unused rows L) ≡ true
       each L below =
@@ -119,30 +119,30 @@ module _ (t : Tree) (is_legal : Legal t) where
           ap₂ together (record_path M (omega arith)) (record_path L below) ∙ paths_together M L (λ same. omega arith))
 
   -- it has that tree
-  pub record_has_tree : tree_of (recordOf t) ≡ t
+  pub record_has_tree : tree_of (record_of t) ≡ t
   unfolding path_of no_rows
   record_has_tree =
-      same_paths_same_tree (tree_of (recordOf t)) t (legal_proper (tree_of (recordOf t)) (treeOf_legal (recordOf t))) (legal_proper t is_legal) same_path
+      same_paths_same_tree (tree_of (record_of t)) t (legal_proper (tree_of (record_of t)) (tree_of_legal (record_of t))) (legal_proper t is_legal) same_path
     where
       held : (M : ℕ) (o : Option (List Row)) → path M t ≡ o → (if no_rows (get_or o []) then none else some (get_or o [])) ≡ o
       held M none e = refl
       held M (some rs) e = rw (path_has_rows t M rs is_legal e)
 
-      same_path : (M : ℕ) → path M (tree_of (recordOf t)) ≡ path M t
+      same_path : (M : ℕ) → path M (tree_of (record_of t)) ≡ path M t
       same_path M =
           elim (dec_lt M 64) [
             | yes below ↦
-                treeOf_path (recordOf t) M record_legal below
+                tree_of_path (record_of t) M record_legal below
                 ∙ ap (λ (rs : List Row). if no_rows rs then none else some rs) (record_path M below)
                 ∙ held M (path M t) refl
-            | no beyond ↦ treeOf_path_beyond (recordOf t) M (omega arith) ∙ sym (beyond_no_path t M is_legal (omega arith))
+            | no beyond ↦ tree_of_path_beyond (record_of t) M (omega arith) ∙ sym (beyond_no_path t M is_legal (omega arith))
           ]
 
 -- a legal record is the record of its tree
-pub tree_has_record : (plan : Plan) → legal plan.rows ≡ true → length plan.rows ≡ 1408 → recordOf (tree_of plan) ≡ plan
+pub tree_has_record : (plan : Plan) → legal plan.rows ≡ true → length plan.rows ≡ 1408 → record_of (tree_of plan) ≡ plan
 tree_has_record plan is_legal long =
     let same =
-    rows_by_blocks (recordOf (tree_of plan)).rows plan.rows (record_length (tree_of plan)) long
+    rows_by_blocks (record_of (tree_of plan)).rows plan.rows (record_length (tree_of plan)) long
     (λ L below. block_of_record (tree_of plan) L below ∙ sym (block_of_tree plan L is_legal long below)) in
     λ i. record { rows = same i }
 
@@ -150,4 +150,4 @@ tree_has_record plan is_legal long =
 pub same_tree_same_record : (plan other : Plan) → legal plan.rows ≡ true → legal other.rows ≡ true → length plan.rows ≡ 1408 → length other.rows ≡ 1408 →
     tree_of plan ≡ tree_of other → plan ≡ other
 same_tree_same_record plan other legal_one legal_other long_one long_other same =
-    sym (tree_has_record plan legal_one long_one) ∙ ap recordOf same ∙ tree_has_record other legal_other long_other
+    sym (tree_has_record plan legal_one long_one) ∙ ap record_of same ∙ tree_has_record other legal_other long_other

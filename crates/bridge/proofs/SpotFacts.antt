@@ -24,7 +24,7 @@ use Rattle.tree.proofs.Opening.{MayOpen, chosen_fits, opened_legal, opened_new}
 use Rattle.paths.proofs.SameNode.{same_node_goes_on}
 use Rattle.bridge.proofs.ClassOnPaths.{family_path}
 use Rattle.bridge.proofs.SearchOnPaths.{FoundSpot}
-use Rattle.bridge.proofs.TreeOfRecord.{treeOf_paths}
+use Rattle.bridge.proofs.TreeOfRecord.{tree_of_paths}
 use Rattle.bridge.proofs.BookedRecord.{through_path, new_line_path, booked_start}
 
 split_path_length : (l d : ℕ) (rs : List Row) → l < length rs → length (split_path l d rs) ≡ suc (length rs)
@@ -89,7 +89,7 @@ module _ (plan : Plan) (L p : ℕ) (s : Spot) (is_legal : legal plan.rows ≡ tr
   row_left M below through small =
       let rs = path_at plan.rows M in
       let reaches = (same_node_goes_on s.level ps rs through).1 in
-      let after = through_path plan L p s is_legal long may found_spot M rs (family_path t (path_at plan.rows) (treeOf_paths plan is_legal) M s.level below reaches) through in
+      let after = through_path plan L p s is_legal long may found_spot M rs (family_path t (path_at plan.rows) (tree_of_paths plan is_legal) M s.level below reaches) through in
       let split = rw (lt-ltb s.divisor weight small) at after in
       let most = at_most_11_above (opened L p t) M (split_path s.level s.divisor rs) (opened_legal L p t may) split in
       let longer = split_path_length s.level s.divisor rs reaches in

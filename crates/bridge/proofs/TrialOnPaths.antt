@@ -14,7 +14,7 @@ use Rattle.tree.specs.Record.{path_at, legal, tree_of}
 use Rattle.paths.specs.Rules.{Family, row_of, class_taken, classes_taken, own_nodes, Spot, place_of, trial_at}
 use Rattle.tree.proofs.Opening.{MayOpen}
 use Rattle.tree.proofs.NodesAdded.{nodes_added, nodes_added_in, trial_added}
-use Rattle.bridge.proofs.TreeOfRecord.{treeOf_paths}
+use Rattle.bridge.proofs.TreeOfRecord.{tree_of_paths}
 use Rattle.bridge.proofs.NodesOnPaths.{place_on, way_sum}
 use Rattle.bridge.proofs.ClassOnPaths.{node_on_path, class_free_is}
 use Rattle.bridge.proofs.SearchOnPaths.{FoundSpot}
@@ -43,12 +43,12 @@ module _ (plan : Plan) (L p : ℕ) (s : Spot) (is_legal : legal plan.rows ≡ tr
   classes_counted : (d : ℕ) → classes_taken family (family s.line) s.level d ≡ count_below d (λ k. not (free d weight found_spot.node.0 k))
   unfolding classes_taken
   classes_counted d =
-      let on_path = node_on_path t family (treeOf_paths plan is_legal) s.line s.level found_spot.line_below found_spot.level_below in
+      let on_path = node_on_path t family (tree_of_paths plan is_legal) s.line s.level found_spot.line_below found_spot.level_below in
       let one_node = sym on_path.node_is ∙ ap (λ (a : Place). at a t) place_is ∙ found_spot.node.1 in
       let one_edges : on_path.edges ≡ found_spot.node.0 = cc in
       ap (count_below d) (fun_ext λ k.
       sym (not-not (class_taken family (family s.line) s.level d k))
-      ∙ ap not (class_free_is t may.legal family (treeOf_paths plan is_legal) s.line s.level found_spot.line_below found_spot.level_below d k)
+      ∙ ap not (class_free_is t may.legal family (tree_of_paths plan is_legal) s.line s.level found_spot.line_below found_spot.level_below d k)
       ∙ ap (λ (f : ℕ → Tree). not (free d weight f k)) one_edges)
 
   split_is : ltb s.divisor weight ≡ (trial L p t).split

@@ -5,15 +5,15 @@ use Rattle.std.proofs.Math.Option.{Option, none, some}
 use Rattle.tree.specs.declared.Plan.{Plan}
 use Rattle.tree.specs.Tree.{Tree}
 use Rattle.tree.specs.Calls.{Call, Answer, refusal, carried_out, answer}
-use Rattle.tree.specs.Record.{legal, tree_of, recordOf}
+use Rattle.tree.specs.Record.{legal, tree_of, record_of}
 
 -- the plan whose record has these numbers
 abbrev pub plan_of : List ℕ → Plan
 plan_of rows = record { rows = rows }
 
 -- its tree
-unfoldable pub tree_of : List ℕ → Tree
-tree_of rows = tree_of (plan_of rows)
+unfoldable pub tree_of_rows : List ℕ → Tree
+tree_of_rows rows = tree_of (plan_of rows)
 
 unfoldable pub rows_unless : Option ℕ → List ℕ → List ℕ → List ℕ
 rows_unless (some n) before after = before
@@ -21,14 +21,14 @@ rows_unless none before after = after
 
 -- the record's numbers after a call: those of the tree that the rules leave, or as they were where the call is refused
 unfoldable pub rows_after : Call → List ℕ → List ℕ
-rows_after c rows = rows_unless (refusal c (tree_of rows)) rows (recordOf (carried_out c (tree_of rows))).rows
+rows_after c rows = rows_unless (refusal c (tree_of_rows rows)) rows (record_of (carried_out c (tree_of_rows rows))).rows
 
 -- a legal record with a given tree; by its tree it is determined
 pub record LegalWith (rows : List ℕ) (t : Tree) : Type 0 where
   pub is_legal : legal rows ≡ true
-  pub tree_is : tree_of rows ≡ t
+  pub tree_is : tree_of_rows rows ≡ t
 
 -- a call was carried out on a record: its answer and what it left are those of the rules
 pub record CarriedOut (c : Call) (before after : List ℕ) (a : Answer) : Type 0 where
-  pub answer_is : a ≡ answer c (tree_of before)
+  pub answer_is : a ≡ answer c (tree_of_rows before)
   pub rows_are : after ≡ rows_after c before

@@ -15,7 +15,7 @@ use Rattle.tree.specs.Asking.{OwnerOrRest, owner_or_rest}
 use Rattle.tree.specs.Refusals.{first_refusal, line_above_63}
 use Rattle.tree.specs.Calls.{Call, open_line, close_line, Answer, Outcome, gives, refuses, gives_unless, turns_outcome}
 use Rattle.tree.specs.Trial.{Trial, trial_outcome}
-use Rattle.bridge.specs.Rows.{plan_of, tree_of, CarriedOut}
+use Rattle.bridge.specs.Rows.{plan_of, tree_of_rows, CarriedOut}
 use Rattle.bridge.proofs.PeriodAsked.{period_stands_for, trial_stands_for}
 use Rattle.lines.specs.declared.OpenAnswer.{OpenAnswer}
 use Rattle.lines.specs.declared.CloseAnswer.{CloseAnswer}
@@ -56,7 +56,7 @@ close_served L before after a b r carried told is = change_served (close_line L)
 
 -- Owner and turns
 
-pub owner_served : (round : ℕ) (rows : List ℕ) (a b : OwnerAnswer) (r : ℤ) → owner_answer a ≡ owner_or_rest round (tree_of rows) → a ≡ b →
+pub owner_served : (round : ℕ) (rows : List ℕ) (a b : OwnerAnswer) (r : ℤ) → owner_answer a ≡ owner_or_rest round (tree_of_rows rows) → a ≡ b →
     IsAnswer (gives (owner_value (owner_answer b))) r → to_z w64 (of_z w64 r) ≡ answer_number (owner_outcome round rows)
 unfolding owner_outcome
 owner_served round rows a b r asked told is = answer_read_back _ r is ∙ ap (λ (o : OwnerOrRest). answer_number (gives (owner_value o))) (ap owner_answer (sym told) ∙ asked)
@@ -89,22 +89,22 @@ module _ {A : Type 0} (numbers : A → List ℕ) (lent : List ℕ) (o : Outcome 
 
 -- q is the period as open takes it
 module _ (rows : List ℕ) (L p q : ℕ) (lent : List ℕ) (asked : q ≡ (if ltb 4095 p then 4096 else p)) where
-  same_trial : trial_outcome L q (tree_of rows) ≡ trial_outcome L p (tree_of rows)
-  same_trial = rw asked (trial_stands_for L p (tree_of rows))
+  same_trial : trial_outcome L q (tree_of_rows rows) ≡ trial_outcome L p (tree_of_rows rows)
+  same_trial = rw asked (trial_stands_for L p (tree_of_rows rows))
 
-  pub trial_served : (told : Trial) (after : List ℕ) (r : ℤ) → gives told ≡ trial_outcome L q (tree_of rows) → IsAnswer (gives 0) r → after ≡ tried_numbers told → TrialServed rows L p lent after (to_z w64 (of_z w64 r))
+  pub trial_served : (told : Trial) (after : List ℕ) (r : ℤ) → gives told ≡ trial_outcome L q (tree_of_rows rows) → IsAnswer (gives 0) r → after ≡ tried_numbers told → TrialServed rows L p lent after (to_z w64 (of_z w64 r))
   trial_served told after r tried is are =
       let given = tried ∙ same_trial in
       record { answer_is = zero_told _ r told given is; tried_is = written tried_numbers lent _ told after given are }
 
-  pub trial_refusal_served : (n : ℕ) (r : ℤ) → refuses n ≡ trial_outcome L q (tree_of rows) → IsAnswer (refuses n) r → TrialServed rows L p lent lent (to_z w64 (of_z w64 r))
+  pub trial_refusal_served : (n : ℕ) (r : ℤ) → refuses n ≡ trial_outcome L q (tree_of_rows rows) → IsAnswer (refuses n) r → TrialServed rows L p lent lent (to_z w64 (of_z w64 r))
   trial_refusal_served n r tried is =
       let refused = tried ∙ same_trial in
       record { answer_is = refusal_told _ r n refused is; tried_is = left_as_found tried_numbers lent _ n refused }
 
 -- The walker
 
-pub walk_served : (rows place : List ℕ) (a b : WalkAnswer) (next : WalkerPlace) (r : ℤ) → WalkedOn (place_of place) (tree_of rows) a next → a ≡ b →
+pub walk_served : (rows place : List ℕ) (a b : WalkAnswer) (next : WalkerPlace) (r : ℤ) → WalkedOn (place_of place) (tree_of_rows rows) a next → a ≡ b →
     IsAnswer (walk_value (walk_answer b)) r → WalkServed rows place (next.next ∷ next.owned ∷ []) (to_z w64 (of_z w64 r))
 unfolding place_numbers
 walk_served rows place a b next r walked told is =

@@ -24,7 +24,7 @@ use Rattle.tree.proofs.Standing.{start_below_period}
 use Rattle.tree.proofs.Ownership.{turns_at_most}
 use Rattle.tree.proofs.Checks.{open_may}
 use Rattle.tree.proofs.Opening.{opened_new}
-use Rattle.bridge.specs.Rows.{tree_of}
+use Rattle.bridge.specs.Rows.{tree_of_rows}
 use Rattle.bridge.proofs.TreeOfRecord.{legal_on_record}
 use Rattle.plan.specs.declared.walker.WalkerPlace.{WalkerPlace}
 use Rattle.plan.specs.Walker.{at_end, walk_outcome}
@@ -141,7 +141,7 @@ tree_in_range rows = by_test (legal rows)
 
 -- The calls
 
-pub change_tells : (c : Call) (before after : List ℕ) (r : ℤ) → ChangeServed c before after r → Tells (change_outcome (answer c (tree_of before))) r
+pub change_tells : (c : Call) (before after : List ℕ) (r : ℤ) → ChangeServed c before after r → Tells (change_outcome (answer c (tree_of_rows before))) r
 change_tells c before after r served = tells _ r (change_in_range c _ (legal_on_record before)) served.answer_is
 
 pub owner_tells : (round : ℕ) (rows : List ℕ) (r : ℤ) → r ≡ answer_number (owner_outcome round rows) → Tells (owner_outcome round rows) r
@@ -156,11 +156,11 @@ pub turns_tells : (L a N : ℕ) (t : Tree) (r : ℤ) → N < 2 ^ 32 → r ≡ an
 unfolding turns_outcome
 turns_tells L a N t r below is = tells _ r (value_in_range _ _ (line_small L t) (omega (arith, turns_at_most L a N t))) is
 
-pub show_tells : (rows : List ℕ) (L : ℕ) (before after : List ℕ) (r : ℤ) → ShowServed rows L before after r → Tells (zero_value (show_outcome L (tree_of rows))) r
+pub show_tells : (rows : List ℕ) (L : ℕ) (before after : List ℕ) (r : ℤ) → ShowServed rows L before after r → Tells (zero_value (show_outcome L (tree_of_rows rows))) r
 unfolding show_outcome
 show_tells rows L before after r served = tells _ r (zero_in_range _ _ (line_small L _)) served.answer_is
 
-pub trial_tells : (rows : List ℕ) (L p : ℕ) (before after : List ℕ) (r : ℤ) → TrialServed rows L p before after r → Tells (zero_value (trial_outcome L p (tree_of rows))) r
+pub trial_tells : (rows : List ℕ) (L p : ℕ) (before after : List ℕ) (r : ℤ) → TrialServed rows L p before after r → Tells (zero_value (trial_outcome L p (tree_of_rows rows))) r
 unfolding trial_outcome refusal
 trial_tells rows L p before after r served = tells _ r (zero_in_range _ _ (refusal_small (open_line L p) _)) served.answer_is
 
@@ -168,7 +168,7 @@ pub sheet_tells : (rows : List ℕ) (a N : ℕ) (after : List ℕ) (r : ℤ) →
 unfolding InRange
 sheet_tells rows a N after r served = tells (gives 0) r (omega arith) served.answer_is
 
-pub walk_tells : (rows before after : List ℕ) (r : ℤ) → WalkServed rows before after r → Tells (walk_value (walk_outcome (place_of before) (tree_of rows))) r
+pub walk_tells : (rows before after : List ℕ) (r : ℤ) → WalkServed rows before after r → Tells (walk_value (walk_outcome (place_of before) (tree_of_rows rows))) r
 walk_tells rows before after r served = tells _ r (walk_in_range _ _ (legal_on_record rows)) served.answer_is
 
 pub list_tells : (before orders lent after written : List ℕ) (r : ℤ) → ListServed before orders lent after written r →

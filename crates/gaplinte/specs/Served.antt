@@ -9,7 +9,7 @@ use Rattle.tree.specs.Sheet.{sheet}
 use Rattle.tree.specs.Calls.{Call, Answer, booked, done, refused, answer, Outcome, gives, refuses, gives_unless, show_outcome}
 use Rattle.tree.specs.Trial.{Trial, trial_outcome}
 use Rattle.tree.specs.Record.{legal, numbers}
-use Rattle.bridge.specs.Rows.{plan_of, tree_of, rows_after}
+use Rattle.bridge.specs.Rows.{plan_of, tree_of_rows, rows_after}
 use Rattle.plan.specs.declared.walker.WalkerPlace.{WalkerPlace}
 use Rattle.plan.specs.Walker.{walk_outcome, place_after}
 use Rattle.lists.specs.Lists.{list_refusal}
@@ -26,7 +26,7 @@ change_outcome (refused n) = refuses n
 
 -- an open or a close on a lent record: its answer, and the record after it, as found where the call is refused
 pub record ChangeServed (c : Call) (before after : List ℕ) (r : ℤ) : Type 0 where
-  pub answer_is : r ≡ answer_number (change_outcome (answer c (tree_of before)))
+  pub answer_is : r ≡ answer_number (change_outcome (answer c (tree_of_rows before)))
   pub rows_are : after ≡ rows_after c before
 
 -- Owner
@@ -38,7 +38,7 @@ owner_value (idle_for g) = 64 + g
 
 -- (Asking the plan, 2) the owner of a round by a lent record: no outcome of it is a refusal
 unfoldable pub owner_outcome : ℕ → List ℕ → Outcome ℕ
-owner_outcome round rows = gives (owner_value (owner_or_rest round (tree_of rows)))
+owner_outcome round rows = gives (owner_value (owner_or_rest round (tree_of_rows rows)))
 
 -- A tree
 
@@ -54,8 +54,8 @@ shown_numbers s = s.period ∷ s.start ∷ numbers s.rows
 
 -- show of a line by a lent record: its answer, and the 24 numbers lent, as found where the call is refused
 pub record ShowServed (rows : List ℕ) (L : ℕ) (before after : List ℕ) (r : ℤ) : Type 0 where
-  pub answer_is : r ≡ answer_number (zero_value (show_outcome L (tree_of rows)))
-  pub shown_is : after ≡ numbers_or shown_numbers before (show_outcome L (tree_of rows))
+  pub answer_is : r ≡ answer_number (zero_value (show_outcome L (tree_of_rows rows)))
+  pub shown_is : after ≡ numbers_or shown_numbers before (show_outcome L (tree_of_rows rows))
 
 -- A trial
 
@@ -65,8 +65,8 @@ tried_numbers t = t.start ∷ t.added ∷ (if t.split then 1 else 0) ∷ []
 
 -- a trial by a lent record: its answer, and the 3 numbers lent, as found where the call is refused
 pub record TrialServed (rows : List ℕ) (L p : ℕ) (before after : List ℕ) (r : ℤ) : Type 0 where
-  pub answer_is : r ≡ answer_number (zero_value (trial_outcome L p (tree_of rows)))
-  pub tried_is : after ≡ numbers_or tried_numbers before (trial_outcome L p (tree_of rows))
+  pub answer_is : r ≡ answer_number (zero_value (trial_outcome L p (tree_of_rows rows)))
+  pub tried_is : after ≡ numbers_or tried_numbers before (trial_outcome L p (tree_of_rows rows))
 
 -- A sheet
 
@@ -77,7 +77,7 @@ sheet_numbers s = s.turns ++ (s.idle ∷ [])
 -- the sheet of a lent record: no outcome of it is a refusal, its value is 0, and the 65 numbers lent are those of the sheet
 pub record SheetServed (rows : List ℕ) (a N : ℕ) (after : List ℕ) (r : ℤ) : Type 0 where
   pub answer_is : r ≡ answer_number (gives 0)
-  pub sheet_is : after ≡ sheet_numbers (sheet a N (tree_of rows))
+  pub sheet_is : after ≡ sheet_numbers (sheet a N (tree_of_rows rows))
 
 -- The walker
 
@@ -95,8 +95,8 @@ place_numbers p = p.next ∷ p.owned ∷ []
 
 -- (The walker, 2) A walker call on a lent record and a lent place: its answer, and the place moved on, as found where the call is refused.
 pub record WalkServed (rows before after : List ℕ) (r : ℤ) : Type 0 where
-  pub answer_is : r ≡ answer_number (walk_value (walk_outcome (place_of before) (tree_of rows)))
-  pub place_is : after ≡ place_numbers (place_after (place_of before) (tree_of rows))
+  pub answer_is : r ≡ answer_number (walk_value (walk_outcome (place_of before) (tree_of_rows rows)))
+  pub place_is : after ≡ place_numbers (place_after (place_of before) (tree_of_rows rows))
 
 -- A list of orders
 

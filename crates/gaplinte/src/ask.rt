@@ -1,7 +1,7 @@
 // The calls that ask a plan for one number.
 ghost use Rattle.std.specs.Prelude.{◌≡◌};
 ghost use Rattle.tree.specs.Calls.{turns_outcome};
-ghost use Rattle.bridge.specs.Rows.{tree_of};
+ghost use Rattle.bridge.specs.Rows.{tree_of_rows};
 ghost use Rattle.gaplinte.specs.Answer.{answer_number};
 ghost use Rattle.gaplinte.specs.Served.{owner_outcome, tree_outcome};
 
@@ -23,7 +23,7 @@ pub extern "C" fn gaplinte_owner(rows: &[u16; 1408], round: u64) -> i64
 // Turns: how many rounds a line owns among so many that begin with `first`.
 #[unsafe(no_mangle)]
 pub extern "C" fn gaplinte_turns(rows: &[u16; 1408], line: u64, first: u64, rounds: u32) -> i64
-    ensures { result ≡ answer_number (turns_outcome line first rounds (tree_of rows.now)) }
+    ensures { result ≡ answer_number (turns_outcome line first rounds (tree_of_rows rows.now)) }
 {
     let answer = plan::ask::turns_rows(rows, line, first, rounds);
     match answer {

@@ -12,7 +12,7 @@ use Rattle.tree.specs.Asking.{owned_by, owner_or_rest}
 use Rattle.tree.specs.Calls.{Call, open_line, close_line, Answer, refusal, reply, carried_out, answer_unless, answer, after}
 use Rattle.tree.specs.Lists.{Entry, calls_of, reference_from, reference, answered_from}
 use Rattle.tree.specs.Demand3.{Demand3}
-use Rattle.tree.specs.Record.{tree_of, recordOf}
+use Rattle.tree.specs.Record.{tree_of, record_of}
 use Rattle.tree.proofs.Resting.{owned_exactly}
 use Rattle.tree.proofs.Demand3.{demand_3}
 use Rattle.plan.specs.declared.ask.OwnerAnswer.{OwnerAnswer}
@@ -31,8 +31,8 @@ returned_is_handed_on c plan a returned meets =
     rw (meets.answer_is, meets.plan_is) (by_refusal c (refusal c (tree_of plan)))
   where
     by_refusal : (k : Call) (o : Option ℕ) →
-        handed_on (answer_unless o (reply k (tree_of plan))) plan (plan_unless o plan (recordOf (carried_out k (tree_of plan))))
-        ≡ plan_unless o plan (recordOf (carried_out k (tree_of plan)))
+        handed_on (answer_unless o (reply k (tree_of plan))) plan (plan_unless o plan (record_of (carried_out k (tree_of plan))))
+        ≡ plan_unless o plan (record_of (carried_out k (tree_of plan)))
     by_refusal k (some n) = refl
     by_refusal (open_line L p) none = refl
     by_refusal (close_line L) none = refl

@@ -14,7 +14,7 @@ use Rattle.tree.specs.Asking.{OwnerOrRest, owned_by, idle_for, owner_or_rest}
 use Rattle.tree.specs.Calls.{Call, open_line, close_line, refused, refusal, reply, answer_unless, answer, gives}
 use Rattle.tree.proofs.Numbering.{owner_below_64}
 use Rattle.tree.proofs.Resting.{owned_exactly}
-use Rattle.bridge.specs.Rows.{tree_of, CarriedOut}
+use Rattle.bridge.specs.Rows.{tree_of_rows, CarriedOut}
 use Rattle.bridge.proofs.TreeOfRecord.{legal_on_record}
 use Rattle.plan.specs.Meets.{empty_plan}
 use Rattle.plan.proofs.Changes.{empty_rows}
@@ -49,7 +49,7 @@ answer_is_told c t = by_refusal (refusal c t) (refusal_small c t)
 
 pub served_is_carried_out : (c : Call) (before after : List ℕ) (r : ℤ) → ChangeServed c before after r → CarriedOut c before after (answer_told c r)
 served_is_carried_out c before after r served =
-    record { answer_is = ap (answer_told c) served.answer_is ∙ answer_is_told c (tree_of before); rows_are = served.rows_are }
+    record { answer_is = ap (answer_told c) served.answer_is ∙ answer_is_told c (tree_of_rows before); rows_are = served.rows_are }
 
 -- Along a list
 
@@ -73,8 +73,8 @@ demand_3_of_library calls rows ran =
 -- The owner call
 
 -- lines are below 64
-line_below : (round : ℕ) (rows : List ℕ) (M : ℕ) → owner_or_rest round (tree_of rows) ≡ owned_by M → M < 64
-line_below round rows M answered = owner_below_64 round (tree_of rows) M (legal_on_record rows) ((owned_exactly round (tree_of rows) M).0 answered)
+line_below : (round : ℕ) (rows : List ℕ) (M : ℕ) → owner_or_rest round (tree_of_rows rows) ≡ owned_by M → M < 64
+line_below round rows M answered = owner_below_64 round (tree_of_rows rows) M (legal_on_record rows) ((owned_exactly round (tree_of_rows rows) M).0 answered)
 
 module _ (o : OwnerOrRest) (below : (M : ℕ) → o ≡ owned_by M → M < 64) where
   -- the number for an owner names line L exactly when that owner is L: 64 and more, which stand for none, are no lines
@@ -99,13 +99,13 @@ module _ (o : OwnerOrRest) (below : (M : ℕ) → o ≡ owned_by M → M < 64) w
 pub owner_of_library : OwnerOfLibrary
 unfolding OwnerOfLibrary Demand3OfLibrary owner_outcome
 owner_of_library calls rows ran round r asked L =
-    let named = line_is_told (owner_or_rest round (tree_of rows)) (line_below round rows) L in
-    let answered = owned_exactly round (tree_of rows) L in
+    let named = line_is_told (owner_or_rest round (tree_of_rows rows)) (line_below round rows) L in
+    let answered = owned_exactly round (tree_of_rows rows) L in
     let owned = (demand_3_of_library calls rows ran).ownership round L in
     (λ told. owned.0 (answered.0 (named.0 (sym asked ∙ told.0, told.1))), λ fits. let line = named.1 (answered.1 (owned.1 fits)) in (asked ∙ line.0, line.1))
 
 pub rest_of_library : RestOfLibrary
 unfolding RestOfLibrary Demand3OfLibrary owner_outcome
 rest_of_library calls rows ran round r asked g told =
-    rest_by_ledger (entries_told calls) (tree_of rows) (legal_on_record rows) (demand_3_of_library calls rows ran) round g
-    (rest_is_told (owner_or_rest round (tree_of rows)) (line_below round rows) g (sym asked ∙ told))
+    rest_by_ledger (entries_told calls) (tree_of_rows rows) (legal_on_record rows) (demand_3_of_library calls rows ran) round g
+    (rest_is_told (owner_or_rest round (tree_of_rows rows)) (line_below round rows) g (sym asked ∙ told))

@@ -12,9 +12,9 @@ use Rattle.tree.specs.Shape.{Legal}
 use Rattle.tree.specs.Calls.{Call, answer, after, Outcome, gives, refuses}
 use Rattle.tree.specs.Lists.{all_closed, Entry, calls_of, reference_from, answered_from}
 use Rattle.tree.specs.Demand3.{Demand3}
-use Rattle.tree.specs.Record.{tree_of, recordOf}
+use Rattle.tree.specs.Record.{tree_of, record_of}
 use Rattle.tree.proofs.Agreement.{agree_at_first, agree_along}
-use Rattle.bridge.proofs.TreeOfRecord.{treeOf_legal}
+use Rattle.bridge.proofs.TreeOfRecord.{tree_of_legal}
 use Rattle.bridge.proofs.RecordRoundTrip.{record_has_tree}
 use Rattle.orders.specs.Reading.{reading}
 use Rattle.orders.proofs.ReadingChecks.{readable_is_read, unreadable_is_refused}
@@ -71,7 +71,7 @@ run_tree : (plan : Plan) (ns : List ℕ) → Legal (list_after (tree_of plan) ns
 unfolding plan_run
 run_tree plan ns legal = by_test (some_carried (list_answers (tree_of plan) ns)) refl
   where
-    by_test : (b : Bool) → some_carried (list_answers (tree_of plan) ns) ≡ b → tree_of (if b then recordOf (list_after (tree_of plan) ns) else plan) ≡ list_after (tree_of plan) ns
+    by_test : (b : Bool) → some_carried (list_answers (tree_of plan) ns) ≡ b → tree_of (if b then record_of (list_after (tree_of plan) ns) else plan) ≡ list_after (tree_of plan) ns
     by_test true e = record_has_tree (list_after (tree_of plan) ns) legal
     by_test false e = sym (list_left_alone ns (tree_of plan) e)
 
@@ -87,8 +87,8 @@ demand_3_of_lists orders lent left written ran =
       bytes_are = rw (sym ran.refusal_is, empty_tree) at ran.bytes_are;
       demand_3 = claim;
       owner_named = demand_3_names_owner run.entries (tree_of left) claim;
-      rest_told = demand_3_tells_rest run.entries (tree_of left) (treeOf_legal left) claim;
-      sheet_for = demand_3_sheet run.entries (tree_of left) (treeOf_legal left) claim;
+      rest_told = demand_3_tells_rest run.entries (tree_of left) (tree_of_legal left) claim;
+      sheet_for = demand_3_sheet run.entries (tree_of left) (tree_of_legal left) claim;
     }
   where
     ns : List ℕ

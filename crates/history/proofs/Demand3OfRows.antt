@@ -5,7 +5,7 @@ use mathlib.Core.Path.{sym, subst}
 use mathlib.Core.List.{List, [], ◌∷◌}
 use Rattle.tree.specs.declared.Plan.{Plan}
 use Rattle.tree.specs.Lists.{Entry}
-use Rattle.bridge.specs.Rows.{tree_of}
+use Rattle.bridge.specs.Rows.{tree_of_rows}
 use Rattle.plan.specs.Meets.{empty_plan}
 use Rattle.plan.proofs.Changes.{carried_meets}
 use Rattle.history.specs.Ran.{Ran, Demand3OfCalls, OwnerOfCalls}
@@ -22,9 +22,9 @@ ran_by_value (x ∷ xs) first last ran =
     (returned, meets, subst (λ (next : Plan). Ran next xs (record { rows = last })) (sym handed) (ran_by_value xs ran.0 last ran.2))
 
 pub demand_3_of_rows : Demand3OfRows
-unfolding Demand3OfRows Demand3OfCalls tree_of
+unfolding Demand3OfRows Demand3OfCalls tree_of_rows
 demand_3_of_rows entries rows ran = demand_3_of_calls entries (record { rows = rows }) (ran_by_value entries empty_plan.rows rows ran)
 
 pub owner_of_rows : OwnerOfRows
-unfolding OwnerOfRows OwnerOfCalls tree_of
+unfolding OwnerOfRows OwnerOfCalls tree_of_rows
 owner_of_rows entries rows ran = owner_of_calls entries (record { rows = rows }) (ran_by_value entries empty_plan.rows rows ran)

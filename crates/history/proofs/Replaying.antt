@@ -17,8 +17,8 @@ use Rattle.tree.specs.Calls.{Call, open_line, Answer, refusal, carried_out}
 use Rattle.tree.specs.Asking.{owner_or_rest}
 use Rattle.tree.specs.Sheet.{sheet}
 use Rattle.tree.specs.Lists.{Entry, calls_of}
-use Rattle.tree.specs.Record.{tree_of, recordOf}
-use Rattle.bridge.specs.Rows.{tree_of, rows_unless, rows_after, CarriedOut}
+use Rattle.tree.specs.Record.{tree_of, record_of}
+use Rattle.bridge.specs.Rows.{tree_of_rows, rows_unless, rows_after, CarriedOut}
 use Rattle.bridge.proofs.PeriodAsked.{period_stands_for}
 use Rattle.plan.specs.declared.ask.OwnerAnswer.{OwnerAnswer}
 use Rattle.plan.specs.Ask.{owner_answer}
@@ -161,11 +161,11 @@ sheet_after_replay numbers before after count plan replays a N s asked =
 
 -- a call by value, said of the records' numbers
 meets_carried : (c : Call) (plan : Plan) (a : Answer) (after : Plan) → Meets c plan a after → CarriedOut c plan.rows after.rows a
-unfolding tree_of rows_after plan_after rows_unless plan_unless
+unfolding tree_of_rows rows_after plan_after rows_unless plan_unless
 meets_carried c plan a after meets =
     record { answer_is = meets.answer_is; rows_are = ap (λ (x : Plan). x.rows) meets.plan_is ∙ by_refusal (refusal c (tree_of plan)) }
   where
-    by_refusal : (o : Option ℕ) → (plan_unless o plan (recordOf (carried_out c (tree_of plan)))).rows ≡ rows_unless o plan.rows (recordOf (carried_out c (tree_of plan))).rows
+    by_refusal : (o : Option ℕ) → (plan_unless o plan (record_of (carried_out c (tree_of plan)))).rows ≡ rows_unless o plan.rows (record_of (carried_out c (tree_of plan))).rows
     by_refusal (some n) = refl
     by_refusal none = refl
 

@@ -19,8 +19,8 @@ use Rattle.tree.proofs.Proper.{legal_proper}
 use Rattle.tree.proofs.Standing.{open_stands, stands_open}
 use Rattle.tree.proofs.Closing.{proper_present_line}
 use Rattle.tree.proofs.Resting.{rest_is_rest, rest_at_most, rest_0_exactly, idle_exactly}
-use Rattle.bridge.specs.Rows.{tree_of}
-use Rattle.bridge.proofs.TreeOfRecord.{treeOf_legal, legal_on_record}
+use Rattle.bridge.specs.Rows.{tree_of_rows}
+use Rattle.bridge.proofs.TreeOfRecord.{tree_of_legal, legal_on_record}
 use Rattle.plan.specs.declared.ask.OwnerAnswer.{OwnerAnswer}
 use Rattle.plan.specs.Ask.{owner_answer}
 use Rattle.history.specs.Ran.{Demand3OfCalls, RestsFor, TellsRest, RestOfCalls}
@@ -73,8 +73,8 @@ module _ (entries : List Entry) (t : Tree) (is_legal : Legal t) (claim : Demand3
 
 pub rest_of_calls : RestOfCalls
 unfolding RestOfCalls Demand3OfCalls
-rest_of_calls entries plan ran = demand_3_tells_rest entries (tree_of plan) (treeOf_legal plan) (demand_3_of_calls entries plan ran)
+rest_of_calls entries plan ran = demand_3_tells_rest entries (tree_of plan) (tree_of_legal plan) (demand_3_of_calls entries plan ran)
 
 pub rest_of_rows : RestOfRows
 unfolding RestOfRows Demand3OfRows
-rest_of_rows entries rows ran = demand_3_tells_rest entries (tree_of rows) (legal_on_record rows) (demand_3_of_rows entries rows ran)
+rest_of_rows entries rows ran = demand_3_tells_rest entries (tree_of_rows rows) (legal_on_record rows) (demand_3_of_rows entries rows ran)

@@ -25,8 +25,8 @@ use Rattle.tree.proofs.Totals.{total_same, count_none}
 use Rattle.tree.proofs.Numbering.{owner_below_64}
 use Rattle.tree.proofs.Ownership.{owns_exactly}
 use Rattle.tree.proofs.Sheets.{turns_on_sheet, line_turns_are, sheet_adds_up}
-use Rattle.bridge.specs.Rows.{tree_of}
-use Rattle.bridge.proofs.TreeOfRecord.{treeOf_legal, legal_on_record}
+use Rattle.bridge.specs.Rows.{tree_of_rows}
+use Rattle.bridge.proofs.TreeOfRecord.{tree_of_legal, legal_on_record}
 use Rattle.gaplinte.specs.Served.{sheet_numbers}
 use Rattle.history.specs.Ran.{Demand3OfCalls}
 use Rattle.history.specs.RanOnRows.{Demand3OfRows}
@@ -116,11 +116,11 @@ module _ (entries : List Entry) (t : Tree) (is_legal : Legal t) (claim : Demand3
 
 pub sheet_of_calls : SheetOfCalls
 unfolding SheetOfCalls Demand3OfCalls
-sheet_of_calls entries plan ran = demand_3_sheet entries (tree_of plan) (treeOf_legal plan) (demand_3_of_calls entries plan ran)
+sheet_of_calls entries plan ran = demand_3_sheet entries (tree_of plan) (tree_of_legal plan) (demand_3_of_calls entries plan ran)
 
 pub sheet_of_rows : SheetOfRows
 unfolding SheetOfRows Demand3OfRows
-sheet_of_rows entries rows ran = demand_3_sheet entries (tree_of rows) (legal_on_record rows) (demand_3_of_rows entries rows ran)
+sheet_of_rows entries rows ran = demand_3_sheet entries (tree_of_rows rows) (legal_on_record rows) (demand_3_of_rows entries rows ran)
 
 -- of the library: what is read out of the numbers of a sheet is that sheet
 numbers_told : (a N : ℕ) (t : Tree) → sheet_told (sheet_numbers (sheet a N t)) ≡ sheet a N t
@@ -132,5 +132,5 @@ numbers_told a N t =
 pub sheet_of_library : SheetOfLibrary
 unfolding SheetOfLibrary Demand3OfLibrary
 sheet_of_library calls rows ran a N numbers r served =
-    demand_3_sheet (entries_told calls) (tree_of rows) (legal_on_record rows) (demand_3_of_library calls rows ran) a N (sheet_told numbers)
-    (ap sheet_told served.sheet_is ∙ numbers_told a N (tree_of rows))
+    demand_3_sheet (entries_told calls) (tree_of_rows rows) (legal_on_record rows) (demand_3_of_library calls rows ran) a N (sheet_told numbers)
+    (ap sheet_told served.sheet_is ∙ numbers_told a N (tree_of_rows rows))

@@ -12,7 +12,7 @@ use Rattle.tree.specs.Search.{if◌then◌else◌}
 use Rattle.tree.specs.Refusals.{open_refusal}
 use Rattle.tree.specs.Calls.{open_line, refusal, gives, refuses, gives_unless}
 use Rattle.tree.specs.Trial.{Trial, trial, trial_outcome}
-use Rattle.bridge.specs.Rows.{tree_of}
+use Rattle.bridge.specs.Rows.{tree_of_rows}
 use Rattle.plan.proofs.Trials.{open_rows_as_told}
 use Rattle.lists.proofs.AnswersFit.{Small, refusal_small}
 use Rattle.gaplinte.specs.Answer.{answer_number, zero_value, numbers_or}
@@ -36,13 +36,13 @@ unfolding tried_told
 refusal_is_told zero tried positive = absurd (omega arith)
 refusal_is_told (suc n) tried positive = refl
 
-outcome_is_told : (L p : ℕ) (rows lent : List ℕ) → let o = trial_outcome L p (tree_of rows) in tried_told (answer_number (zero_value o)) (numbers_or tried_numbers lent o) ≡ o
+outcome_is_told : (L p : ℕ) (rows lent : List ℕ) → let o = trial_outcome L p (tree_of_rows rows) in tried_told (answer_number (zero_value o)) (numbers_or tried_numbers lent o) ≡ o
 unfolding trial_outcome gives_unless answer_number zero_value numbers_or Small refusal
-outcome_is_told L p rows lent = by_refusal (open_refusal L p (tree_of rows)) (refusal_small (open_line L p) (tree_of rows))
+outcome_is_told L p rows lent = by_refusal (open_refusal L p (tree_of_rows rows)) (refusal_small (open_line L p) (tree_of_rows rows))
   where
     by_refusal : (o : Option ℕ) → Small o →
-        let told = gives_unless o (trial L p (tree_of rows)) in tried_told (answer_number (zero_value told)) (numbers_or tried_numbers lent told) ≡ told
-    by_refusal none small = figures_are_told (trial L p (tree_of rows))
+        let told = gives_unless o (trial L p (tree_of_rows rows)) in tried_told (answer_number (zero_value told)) (numbers_or tried_numbers lent told) ≡ told
+    by_refusal none small = figures_are_told (trial L p (tree_of_rows rows))
     by_refusal (some n) small = refusal_is_told n lent small.0
 
 -- The open after it

@@ -6,7 +6,7 @@ use Rattle.std.proofs.Math.Option.{some}
 use Rattle.tree.specs.Calls.{Call, open_line, close_line, Answer, booked, done, refused}
 use Rattle.tree.specs.Lists.{Booking, Entry, ledger_of, RoundFits}
 use Rattle.tree.specs.Demand3.{Demand3}
-use Rattle.bridge.specs.Rows.{tree_of}
+use Rattle.bridge.specs.Rows.{tree_of_rows}
 use Rattle.gaplinte.specs.Answer.{answer_number}
 use Rattle.gaplinte.specs.Served.{ChangeServed, owner_outcome}
 use Rattle.history.specs.Ran.{RestsFor}
@@ -36,7 +36,7 @@ RanInLibrary first (x ∷ xs) last =
 
 -- (The lists of demand 3, 2, 5) Demand 3: whatever list of opens and closes is run on a record of zeros, the whole claim holds of the answers read and of the record's tree.
 unfoldable pub Demand3OfLibrary : Type 0
-Demand3OfLibrary = (calls : List Answered) (rows : List ℕ) → RanInLibrary (replicate 1408 0) calls rows → Demand3 (entries_told calls) (tree_of rows)
+Demand3OfLibrary = (calls : List Answered) (rows : List ℕ) → RanInLibrary (replicate 1408 0) calls rows → Demand3 (entries_told calls) (tree_of_rows rows)
 
 -- (The lists of demand 3, 19) The owner call is put to the record that the list leaves: its number names line L exactly when the ledger has L open and the round fits it.
 -- 64 and more, the numbers for an idle round, name no line.

@@ -5,7 +5,7 @@ use Rattle.std.specs.Prelude.{ℕ, ◌≡◌, List, [], ◌∷◌}
 use Rattle.tree.specs.Asking.{owner_or_rest}
 use Rattle.tree.specs.Lists.{Entry}
 use Rattle.tree.specs.Demand3.{Demand3}
-use Rattle.bridge.specs.Rows.{tree_of, CarriedOut}
+use Rattle.bridge.specs.Rows.{tree_of_rows, CarriedOut}
 use Rattle.plan.specs.declared.ask.OwnerAnswer.{OwnerAnswer}
 use Rattle.plan.specs.Ask.{owner_answer}
 use Rattle.plan.specs.Meets.{empty_plan}
@@ -20,16 +20,16 @@ RanOnRows first (x ∷ xs) last =
 
 -- (The lists of demand 3, 2, 5) Demand 3: whatever list of opens and closes is run on a record that is empty at first, the whole claim holds of it and of the record's tree.
 unfoldable pub Demand3OfRows : Type 0
-Demand3OfRows = (entries : List Entry) (rows : List ℕ) → RanOnRows empty_plan.rows entries rows → Demand3 entries (tree_of rows)
+Demand3OfRows = (entries : List Entry) (rows : List ℕ) → RanOnRows empty_plan.rows entries rows → Demand3 entries (tree_of_rows rows)
 
 -- (The lists of demand 3, 19) The owner call is put to the record that the list leaves: each answer that its contract allows names the owner.
 unfoldable pub OwnerOfRows : Type 0
 OwnerOfRows =
     (entries : List Entry) (rows : List ℕ) → RanOnRows empty_plan.rows entries rows →
-    (round : ℕ) (a : OwnerAnswer) → owner_answer a ≡ owner_or_rest round (tree_of rows) → NamesOwner entries round a
+    (round : ℕ) (a : OwnerAnswer) → owner_answer a ≡ owner_or_rest round (tree_of_rows rows) → NamesOwner entries round a
 
 -- (Ask 4, 4) and tells the rest where it is idle
 unfoldable pub RestOfRows : Type 0
 RestOfRows =
     (entries : List Entry) (rows : List ℕ) → RanOnRows empty_plan.rows entries rows →
-    (round : ℕ) (a : OwnerAnswer) → owner_answer a ≡ owner_or_rest round (tree_of rows) → TellsRest entries round a
+    (round : ℕ) (a : OwnerAnswer) → owner_answer a ≡ owner_or_rest round (tree_of_rows rows) → TellsRest entries round a

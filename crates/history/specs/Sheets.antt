@@ -9,7 +9,7 @@ use Rattle.tree.specs.Search.{if◌then◌else◌, found, some_below, total_belo
 use Rattle.tree.specs.Sheet.{sheet, turns_on}
 use Rattle.tree.specs.Lists.{Booking, Entry, ledger_of}
 use Rattle.tree.specs.Record.{tree_of}
-use Rattle.bridge.specs.Rows.{tree_of}
+use Rattle.bridge.specs.Rows.{tree_of_rows}
 use Rattle.plan.specs.Meets.{empty_plan}
 use Rattle.gaplinte.specs.Served.{SheetServed}
 use Rattle.history.specs.Ran.{Ran}
@@ -39,7 +39,7 @@ SheetOfCalls =
 -- after every list on a lent record
 unfoldable pub SheetOfRows : Type 0
 SheetOfRows =
-    (entries : List Entry) (rows : List ℕ) → RanOnRows empty_plan.rows entries rows → (a N : ℕ) (s : Sheet) → s ≡ sheet a N (tree_of rows) → SheetFor entries a N s
+    (entries : List Entry) (rows : List ℕ) → RanOnRows empty_plan.rows entries rows → (a N : ℕ) (s : Sheet) → s ≡ sheet a N (tree_of_rows rows) → SheetFor entries a N s
 
 -- what a caller of the library reads out of the 65 numbers
 unfoldable pub sheet_told : List ℕ → Sheet

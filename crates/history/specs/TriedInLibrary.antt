@@ -3,7 +3,7 @@
 use Rattle.std.specs.Prelude.{ℕ, suc, List, eqb, ℤ, pos, negsuc, get_or}
 use Rattle.tree.specs.Calls.{open_line, Outcome, gives, refuses}
 use Rattle.tree.specs.Trial.{Trial, BroughtAbout}
-use Rattle.bridge.specs.Rows.{tree_of}
+use Rattle.bridge.specs.Rows.{tree_of_rows}
 use Rattle.gaplinte.specs.Served.{ChangeServed, TrialServed}
 use Rattle.history.specs.RanInLibrary.{answer_told}
 
@@ -16,4 +16,4 @@ tried_told (negsuc n) tried = refuses (suc n)
 unfoldable pub OpenedAsTriedInLibrary : Type 0
 OpenedAsTriedInLibrary =
     (L p : ℕ) (before lent tried after : List ℕ) (r s : ℤ) → TrialServed before L p lent tried r → ChangeServed (open_line L p) before after s →
-    BroughtAbout (tried_told r tried) (answer_told (open_line L p) s) (tree_of before) (tree_of after)
+    BroughtAbout (tried_told r tried) (answer_told (open_line L p) s) (tree_of_rows before) (tree_of_rows after)

@@ -23,7 +23,7 @@ use Rattle.candidates.specs.declared.Spot.{Spot as CandidateSpot}
 use Rattle.candidates.specs.Answers.{spot_in}
 use Rattle.candidates.specs.Edges.{ClosedFrom, EndOfLines}
 use Rattle.booking.specs.Writing.{Placeable}
-use Rattle.bridge.specs.Rows.{tree_of, CarriedOut}
+use Rattle.bridge.specs.Rows.{tree_of_rows, CarriedOut}
 use Rattle.bridge.proofs.SearchOnPaths.{FoundSpot}
 use Rattle.bridge.proofs.FirstRecord.{AllClosed}
 use Rattle.bridge.proofs.TreeOfRecord.{open_on_record}
@@ -46,14 +46,14 @@ module _ {rows : List ℕ} {end : ℕ} (lines : EndOfLines rows end) where
   pub root_found : end ≡ 0 → ClosedFrom rows 0
   root_found is_0 = rw is_0 at lines.closed_from
 
-  pub no_room_found : (p : ℕ) → legal rows ≡ true → (end ≡ 0 → ⊥) → best_of_lines (path_at rows) p 64 ≡ none → no_room p (tree_of rows) ≡ true
+  pub no_room_found : (p : ℕ) → legal rows ≡ true → (end ≡ 0 → ⊥) → best_of_lines (path_at rows) p 64 ≡ none → no_room p (tree_of_rows rows) ≡ true
   no_room_found p is_legal some_open None_found =
       let below = lines.closed_from.within in
       no_room_on rows p (end - 1) is_legal (omega arith) (lines.last_open (end - 1) (omega arith)) None_found
 
-pub open_again : (rows : List ℕ) (L p : ℕ) → legal rows ≡ true → L ≤ 63 → period_out_of_range p ≡ false → no_rows (path_at rows L) ≡ false → open_refusal L p (tree_of rows) ≡ some 3
+pub open_again : (rows : List ℕ) (L p : ℕ) → legal rows ≡ true → L ≤ 63 → period_out_of_range p ≡ false → no_rows (path_at rows L) ≡ false → open_refusal L p (tree_of_rows rows) ≡ some 3
 open_again rows L p is_legal number inside there =
-    open_refused_3 L p (tree_of rows) number inside (open_on_record rows is_legal L (omega arith) ∙ ap not there)
+    open_refused_3 L p (tree_of_rows rows) number inside (open_on_record rows is_legal L (omega arith) ∙ ap not there)
 
 -- an open that passes the checks 1, 2 and 3 finds what the search finds
 pub checked_if_bookable : (rows : List ℕ) (L p : ℕ) → Bookable rows L p → (o : CheckedOpen) → Searched rows p o → OpenChecked rows L p o
@@ -61,13 +61,13 @@ unfolding Searched OpenChecked
 checked_if_bookable rows L p ready (Refused n) searched =
     let number = ready.number in
     let absent = open_on_record rows ready.is_legal L (omega arith) ∙ ap not ready.absent in
-    open_last_check L p (tree_of rows) number ready.inside absent ∙ rw (searched.1, searched.0)
+    open_last_check L p (tree_of_rows rows) number ready.inside absent ∙ rw (searched.1, searched.0)
 checked_if_bookable rows L p ready Root searched = (ready, searched)
 checked_if_bookable rows L p ready (At s) searched = record { bookable = ready; found_one = searched }
 
 -- what was found, case by case
 module _ (rows : List ℕ) (L p : ℕ) {o : CheckedOpen} (checked : OpenChecked rows L p o) where
-  pub checked_refusal : {n : ℕ} → o ≡ Refused n → open_refusal L p (tree_of rows) ≡ some n
+  pub checked_refusal : {n : ℕ} → o ≡ Refused n → open_refusal L p (tree_of_rows rows) ≡ some n
   unfolding OpenChecked
   checked_refusal told = rw told at checked
 
@@ -98,33 +98,33 @@ module _ (rows : List ℕ) (L p : ℕ) (s : Spot) (ready_at : BookableAt rows L 
   abbrev ready : Bookable rows L p
   ready = ready_at.bookable
 
-  pub found_spot : FoundSpot p (tree_of rows) (path_at rows) s
+  pub found_spot : FoundSpot p (tree_of_rows rows) (path_at rows) s
   found_spot = spot_found rows ready.is_legal long L p ready.number ready.inside ready.absent s ready_at.found_one
 
-  pub may_open_at : MayOpen L p (tree_of rows)
+  pub may_open_at : MayOpen L p (tree_of_rows rows)
   may_open_at = may_open rows ready.is_legal long L p ready.number ready.inside ready.absent s ready_at.found_one
 
   -- the numbers that the code computes are in range
   pub product_fits : s.step * s.divisor ≤ 4095
-  unfolding tree_of
+  unfolding tree_of_rows
   product_fits =
       let most = product_at_most (record { rows = rows }) L p s ready.is_legal long may_open_at found_spot in
       let range = range_at_most p ready.inside in
       omega arith
 
   pub product_not_zero : 0 < s.step * s.divisor
-  unfolding tree_of
+  unfolding tree_of_rows
   product_not_zero = product_positive (record { rows = rows }) L p s ready.is_legal long may_open_at found_spot
 
   pub start_fits : s.offset + s.class * s.step < 4095
-  unfolding tree_of
+  unfolding tree_of_rows
   start_fits =
       let below = start_below (record { rows = rows }) L p s ready.is_legal long may_open_at found_spot in
       let range = range_at_most p ready.inside in
       omega arith
 
   pub spot_splittable : SplittableIfSmaller rows s.line s.level s.divisor
-  unfolding tree_of
+  unfolding tree_of_rows
   spot_splittable =
       record {
         line_below = found_spot.line_below;
@@ -152,7 +152,7 @@ module _ (rows : List ℕ) (L p : ℕ) (s : Spot) (ready_at : BookableAt rows L 
   after = split_if_smaller rows s.line s.level s.divisor
 
   way_after : take s.level (path_at after s.line) ≡ take s.level (path_at rows s.line)
-  unfolding split_if_smaller tree_of
+  unfolding split_if_smaller tree_of_rows
   way_after =
       ap (take s.level) (split_path_at (record { rows = rows }) L p s ready.is_legal long may_open_at found_spot s.line found_spot.line_below other_line)
       ∙ either (same_node s.level ps ps) (ltb s.divisor (row_of s.level ps).weight)
@@ -166,7 +166,7 @@ module _ (rows : List ℕ) (L p : ℕ) (s : Spot) (ready_at : BookableAt rows L 
       either false b = refl
 
   pub spot_placeable : (q : ℕ) → q ≡ p / (s.step * s.divisor) → Placeable after L s.line s.level s.divisor s.class q
-  unfolding tree_of
+  unfolding tree_of_rows
   spot_placeable q h =
       let below = found_spot.level_below in
       let before = length-take s.level (path_at rows s.line) in

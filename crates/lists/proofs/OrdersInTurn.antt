@@ -11,7 +11,7 @@ use lib.Seq.{lt-length-set, drop-cons, drop-drop, drop-set-lt, take-suc-set}
 use Rattle.tree.specs.Tree.{Tree}
 use Rattle.tree.specs.Calls.{Answer}
 use Rattle.tree.specs.Record.{legal}
-use Rattle.bridge.specs.Rows.{tree_of}
+use Rattle.bridge.specs.Rows.{tree_of_rows}
 use Rattle.orders.specs.Order.{order_of}
 use Rattle.lists.specs.Lists.{orders_of, list_answers, list_after, high_byte, low_byte, answer_bytes, carried, some_carried}
 use Rattle.lists.specs.Runs.{OrderRan, Runnable, bytes_after, OrdersRan}
@@ -94,10 +94,10 @@ pub record Running (rows₀ orders lent₀ : List ℕ) (count : ℕ) (rows lent 
   pub runnable : Runnable rows₀ orders lent₀ count
   pub at_most : k ≤ count
   pub is_legal : legal rows ≡ true
-  pub tree_same : list_after (tree_of rows) (orders_from orders k) ≡ list_after (tree_of rows₀) (orders_of orders)
-  pub any_same : (any || some_carried (list_answers (tree_of rows) (orders_from orders k))) ≡ some_carried (list_answers (tree_of rows₀) (orders_of orders))
+  pub tree_same : list_after (tree_of_rows rows) (orders_from orders k) ≡ list_after (tree_of_rows rows₀) (orders_of orders)
+  pub any_same : (any || some_carried (list_answers (tree_of_rows rows) (orders_from orders k))) ≡ some_carried (list_answers (tree_of_rows rows₀) (orders_of orders))
   pub length_same : length lent ≡ length lent₀
-  pub bytes_same : take (2 * k) lent ++ answer_bytes (list_answers (tree_of rows) (orders_from orders k)) ≡ answer_bytes (list_answers (tree_of rows₀) (orders_of orders))
+  pub bytes_same : take (2 * k) lent ++ answer_bytes (list_answers (tree_of_rows rows) (orders_from orders k)) ≡ answer_bytes (list_answers (tree_of_rows rows₀) (orders_of orders))
   pub beyond_same : drop (2 * k) lent ≡ drop (2 * k) lent₀
 
 module _ (rows₀ orders lent₀ : List ℕ) (count : ℕ) where
@@ -139,7 +139,7 @@ module _ (rows₀ orders lent₀ : List ℕ) (count : ℕ) where
         runnable = run.runnable;
         at_most = omega arith;
         is_legal = ran.rows_are.is_legal;
-        tree_same = ap (λ (t : Tree). list_after t rest) ran.rows_are.tree_is ∙ ap (list_after (tree_of rows)) (sym next) ∙ run.tree_same;
+        tree_same = ap (λ (t : Tree). list_after t rest) ran.rows_are.tree_is ∙ ap (list_after (tree_of_rows rows)) (sym next) ∙ run.tree_same;
         any_same = or_moved (carried a) any (some_carried answers) ∙ ap (λ (xs : List Answer). any || some_carried xs) (sym answers_next) ∙ run.any_same;
         length_same = written_length lent (2 * k) (high_byte a) (low_byte a) inside ∙ run.length_same;
         bytes_same =
@@ -166,10 +166,10 @@ module _ (rows₀ orders lent₀ : List ℕ) (count : ℕ) where
       rest = orders_from orders (k + 1)
 
       answers : List Answer
-      answers = list_answers (tree_of rows') rest
+      answers = list_answers (tree_of_rows rows') rest
 
       next : orders_from orders k ≡ order_at orders k ∷ rest
       next = next_order orders k (omega (arith, run.runnable.in_threes))
 
-      answers_next : list_answers (tree_of rows) (orders_from orders k) ≡ a ∷ answers
-      answers_next = ap (list_answers (tree_of rows)) next ∙ ap₂ (λ (x : Answer) (t : Tree). x ∷ list_answers t rest) (sym ran.answer_is) (sym ran.rows_are.tree_is)
+      answers_next : list_answers (tree_of_rows rows) (orders_from orders k) ≡ a ∷ answers
+      answers_next = ap (list_answers (tree_of_rows rows)) next ∙ ap₂ (λ (x : Answer) (t : Tree). x ∷ list_answers t rest) (sym ran.answer_is) (sym ran.rows_are.tree_is)

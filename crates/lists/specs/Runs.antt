@@ -6,8 +6,8 @@ use Rattle.tree.specs.declared.Plan.{Plan}
 use Rattle.tree.specs.Search.{if◌then◌else◌}
 use Rattle.tree.specs.Tree.{Tree}
 use Rattle.tree.specs.Calls.{Answer, booked, done, refused}
-use Rattle.tree.specs.Record.{legal, tree_of, recordOf}
-use Rattle.bridge.specs.Rows.{tree_of, LegalWith}
+use Rattle.tree.specs.Record.{legal, tree_of, record_of}
+use Rattle.bridge.specs.Rows.{tree_of_rows, LegalWith}
 use Rattle.lists.specs.declared.OrderAnswer.{OrderAnswer}
 use Rattle.lists.specs.declared.OrderAnswer.TheVariants.{Booked, Done, Refused}
 use Rattle.lists.specs.declared.ListAnswer.{ListAnswer}
@@ -27,8 +27,8 @@ refusal_in (ListRefused n) = some n
 
 -- one order ran on a legal record: it gave the order's answer and left the record of the order's tree
 pub record OrderRan (n : ℕ) (before after : List ℕ) (a : Answer) : Type 0 where
-  pub answer_is : a ≡ order_answer n (tree_of before)
-  pub rows_are : LegalWith after (order_after n (tree_of before))
+  pub answer_is : a ≡ order_answer n (tree_of_rows before)
+  pub rows_are : LegalWith after (order_after n (tree_of_rows before))
 
 -- a list that passes its checks on a legal record
 pub record Runnable (rows orders answers : List ℕ) (count : ℕ) : Type 0 where
@@ -43,13 +43,13 @@ bytes_after t ns lent = answer_bytes (list_answers t ns) ++ drop (2 * length ns)
 
 -- all orders ran on a legal record: what they left in the record and in the lent bytes, and whether any was carried out
 pub record OrdersRan (ns before after lent written : List ℕ) (any : Bool) : Type 0 where
-  pub rows_are : LegalWith after (list_after (tree_of before) ns)
-  pub bytes_are : written ≡ bytes_after (tree_of before) ns lent
-  pub any_is : any ≡ some_carried (list_answers (tree_of before) ns)
+  pub rows_are : LegalWith after (list_after (tree_of_rows before) ns)
+  pub bytes_are : written ≡ bytes_after (tree_of_rows before) ns lent
+  pub any_is : any ≡ some_carried (list_answers (tree_of_rows before) ns)
 
 -- (Orders, 4, 5, 6) The plan after a list that is not refused: the record of the tree that it leaves, or the record as found where nothing was carried out.
 unfoldable pub plan_run : Plan → List ℕ → Plan
-plan_run plan ns = if some_carried (list_answers (tree_of plan) ns) then recordOf (list_after (tree_of plan) ns) else plan
+plan_run plan ns = if some_carried (list_answers (tree_of plan) ns) then record_of (list_after (tree_of plan) ns) else plan
 
 -- a list that passes its checks ran on a plan
 pub record CheckedRan (plan : Plan) (orders lent : List ℕ) (after : Plan) (written : List ℕ) : Type 0 where

@@ -14,11 +14,11 @@ use Rattle.tree.specs.Tree.{Tree, nothing, path, is_open, path_of}
 use Rattle.tree.specs.Shape.{Legal}
 use Rattle.tree.specs.Asking.{rows_11}
 use Rattle.tree.specs.Calls.{Call, open_line, close_line, Answer, booked, refused, refusal, reply, carried_out, answer_unless, tree_unless, answer, after}
-use Rattle.tree.specs.Record.{legal, tree_of, numbers, numbers_below, recordOf}
+use Rattle.tree.specs.Record.{legal, tree_of, numbers, numbers_below, record_of}
 use Rattle.tree.proofs.Checks.{line_refused_4}
 use Rattle.paths.specs.declared.Found.TheVariants.{Nothing}
-use Rattle.bridge.specs.Rows.{tree_of, rows_unless, rows_after, CarriedOut}
-use Rattle.bridge.proofs.TreeOfRecord.{treeOf_legal, treeOf_illegal}
+use Rattle.bridge.specs.Rows.{tree_of_rows, rows_unless, rows_after, CarriedOut}
+use Rattle.bridge.proofs.TreeOfRecord.{tree_of_legal, tree_of_illegal}
 use Rattle.bridge.proofs.RecordRoundTrip.{record_legal, record_has_tree}
 use Rattle.bridge.proofs.CarriedLegal.{carried_out_legal}
 use Rattle.bridge.proofs.CallsOnRecords.{refused_on}
@@ -34,11 +34,11 @@ use Rattle.plan.proofs.LineFound.{absent_or_no_tree}
 -- A record that is a tree
 
 pub carried_meets : (c : Call) (plan : Plan) (rows : List ℕ) (a : Answer) → CarriedOut c plan.rows rows a → Meets c plan a (record { rows = rows })
-unfolding tree_of rows_after plan_after rows_unless plan_unless
+unfolding tree_of_rows rows_after plan_after rows_unless plan_unless
 carried_meets c plan rows a h =
     record { answer_is = h.answer_is; plan_is = (λ i. record { rows = h.rows_are i }) ∙ by_refusal (refusal c (tree_of plan)) }
   where
-    by_refusal : (o : Option ℕ) → ◌≡◌ {A = Plan} (record { rows = rows_unless o plan.rows (recordOf (carried_out c (tree_of plan))).rows }) (plan_unless o plan (recordOf (carried_out c (tree_of plan))))
+    by_refusal : (o : Option ℕ) → ◌≡◌ {A = Plan} (record { rows = rows_unless o plan.rows (record_of (carried_out c (tree_of plan))).rows }) (plan_unless o plan (record_of (carried_out c (tree_of plan))))
     by_refusal (some n) = refl
     by_refusal none = refl
 
@@ -48,14 +48,14 @@ unfolding plan_after plan_unless after tree_unless
 plan_after_tree c plan = by_refusal (refusal c (tree_of plan)) refl
   where
     by_refusal : (o : Option ℕ) → refusal c (tree_of plan) ≡ o →
-        tree_of (plan_unless o plan (recordOf (carried_out c (tree_of plan)))) ≡ tree_unless o (tree_of plan) (carried_out c (tree_of plan))
-    by_refusal none e = record_has_tree (carried_out c (tree_of plan)) (carried_out_legal c (tree_of plan) (treeOf_legal plan) e)
+        tree_of (plan_unless o plan (record_of (carried_out c (tree_of plan)))) ≡ tree_unless o (tree_of plan) (carried_out c (tree_of plan))
+    by_refusal none e = record_has_tree (carried_out c (tree_of plan)) (carried_out_legal c (tree_of plan) (tree_of_legal plan) e)
     by_refusal (some n) e = refl
 
 -- The empty plan
 
 pub empty_rows : (rows : List ℕ) → rows ≡ replicate 1408 0 → ◌≡◌ {A = Plan} (record { rows = rows }) empty_plan
-unfolding empty_plan recordOf numbers_below numbers rows_11 path_of path
+unfolding empty_plan record_of numbers_below numbers rows_11 path_of path
 empty_rows rows h = λ i. record { rows = h i }
 
 pub empty_legal : legal empty_plan.rows ≡ true
@@ -78,12 +78,12 @@ refused_not_booked n s h = let z : ◌≡◌ {A = ℕ} 0 1 = cc in omega arith
 
 module _ (rows : List ℕ) (not_legal : legal rows ≡ false) where
   -- both have the empty tree
-  no_tree : tree_of rows ≡ nothing
-  unfolding tree_of
-  no_tree = treeOf_illegal (record { rows = rows }) not_legal
+  no_tree : tree_of_rows rows ≡ nothing
+  unfolding tree_of_rows
+  no_tree = tree_of_illegal (record { rows = rows }) not_legal
 
-  pub same_tree : tree_of empty_plan.rows ≡ tree_of rows
-  unfolding tree_of
+  pub same_tree : tree_of_rows empty_plan.rows ≡ tree_of_rows rows
+  unfolding tree_of_rows
   same_tree = empty_tree ∙ sym no_tree
 
   booked_from_empty : (c : Call) (s : ℕ) (after : List ℕ) → CarriedOut c empty_plan.rows after (booked s) → CarriedOut c rows after (booked s)
@@ -92,32 +92,32 @@ module _ (rows : List ℕ) (not_legal : legal rows ≡ false) where
       record {
         answer_is = told;
         rows_are =
-            h.rows_are ∙ ap (λ (t : Tree). rows_unless (refusal c t) empty_plan.rows (recordOf (carried_out c t)).rows) same_tree
-            ∙ by_refusal (refusal c (tree_of rows)) told;
+            h.rows_are ∙ ap (λ (t : Tree). rows_unless (refusal c t) empty_plan.rows (record_of (carried_out c t)).rows) same_tree
+            ∙ by_refusal (refusal c (tree_of_rows rows)) told;
       }
     where
-      told : booked s ≡ answer c (tree_of rows)
+      told : booked s ≡ answer c (tree_of_rows rows)
       told = h.answer_is ∙ ap (answer c) same_tree
 
-      by_refusal : (o : Option ℕ) → booked s ≡ answer_unless o (reply c (tree_of rows)) →
-          rows_unless o empty_plan.rows (recordOf (carried_out c (tree_of rows))).rows ≡ rows_unless o rows (recordOf (carried_out c (tree_of rows))).rows
+      by_refusal : (o : Option ℕ) → booked s ≡ answer_unless o (reply c (tree_of_rows rows)) →
+          rows_unless o empty_plan.rows (record_of (carried_out c (tree_of_rows rows))).rows ≡ rows_unless o rows (record_of (carried_out c (tree_of_rows rows))).rows
       by_refusal (some n) e = absurd (refused_not_booked n s (sym e))
       by_refusal none e = refl
 
   refused_from_empty : (c : Call) (n : ℕ) (after : List ℕ) → CarriedOut c empty_plan.rows after (refused n) → CarriedOut c rows rows (refused n)
   unfolding answer answer_unless rows_after rows_unless
-  refused_from_empty c n after h = record { answer_is = told; rows_are = by_refusal (refusal c (tree_of rows)) told }
+  refused_from_empty c n after h = record { answer_is = told; rows_are = by_refusal (refusal c (tree_of_rows rows)) told }
     where
-      told : refused n ≡ answer c (tree_of rows)
+      told : refused n ≡ answer c (tree_of_rows rows)
       told = h.answer_is ∙ ap (answer c) same_tree
 
-      by_refusal : (o : Option ℕ) → refused n ≡ answer_unless o (reply c (tree_of rows)) → rows ≡ rows_unless o rows (recordOf (carried_out c (tree_of rows))).rows
+      by_refusal : (o : Option ℕ) → refused n ≡ answer_unless o (reply c (tree_of_rows rows)) → rows ≡ rows_unless o rows (record_of (carried_out c (tree_of_rows rows))).rows
       by_refusal (some m) e = refl
-      by_refusal none e = absurd (reply_not_refused c (tree_of rows) n (sym e))
+      by_refusal none e = absurd (reply_not_refused c (tree_of_rows rows) n (sym e))
 
   close_none : (L : ℕ) → L ≤ 63 → CarriedOut (close_line L) rows rows (refused 4)
   unfolding refusal is_open path found
-  close_none L number = refused_on (close_line L) rows 4 (line_refused_4 L (tree_of rows) number (ap (is_open L) no_tree))
+  close_none L number = refused_on (close_line L) rows 4 (line_refused_4 L (tree_of_rows rows) number (ap (is_open L) no_tree))
 
   -- an open that was made in the empty plan instead
   module _ (L p : ℕ) (e : Plan) (after : List ℕ) (a : OpenAnswer) (empty : e ≡ empty_plan) (h : CarriedOut (open_line L p) e.rows after (open_answer a)) where

@@ -9,8 +9,8 @@ use Rattle.tree.specs.Calls.{open_line, Answer, Outcome}
 use Rattle.tree.specs.Trial.{Trial, trial_outcome, BroughtAbout}
 use Rattle.tree.specs.Record.{legal, tree_of}
 use Rattle.tree.proofs.Trials.{open_brings_about}
-use Rattle.bridge.specs.Rows.{plan_of, tree_of, CarriedOut}
-use Rattle.bridge.proofs.TreeOfRecord.{treeOf_legal}
+use Rattle.bridge.specs.Rows.{plan_of, tree_of_rows, CarriedOut}
+use Rattle.bridge.proofs.TreeOfRecord.{tree_of_legal}
 use Rattle.lines.specs.declared.OpenAnswer.{OpenAnswer}
 use Rattle.lines.specs.Answers.{open_answer}
 use Rattle.trials.specs.declared.TrialAnswer.{TrialAnswer}
@@ -20,18 +20,18 @@ use Rattle.plan.specs.Tried.{OpenedAsTried}
 use Rattle.plan.proofs.Changes.{carried_meets, plan_after_tree, same_tree}
 
 -- a trial that was made in the empty plan instead
-pub trial_in_empty : (rows : List ℕ) (L p : ℕ) (e : Plan) (o : Outcome Trial) → legal rows ≡ false → e ≡ empty_plan → o ≡ trial_outcome L p (tree_of e.rows) → o ≡ trial_outcome L p (tree_of rows)
+pub trial_in_empty : (rows : List ℕ) (L p : ℕ) (e : Plan) (o : Outcome Trial) → legal rows ≡ false → e ≡ empty_plan → o ≡ trial_outcome L p (tree_of_rows e.rows) → o ≡ trial_outcome L p (tree_of_rows rows)
 trial_in_empty rows L p e o not_legal empty told =
-    told ∙ ap (λ (plan : Plan). trial_outcome L p (tree_of plan.rows)) empty ∙ ap (trial_outcome L p) (same_tree rows not_legal)
+    told ∙ ap (λ (plan : Plan). trial_outcome L p (tree_of_rows plan.rows)) empty ∙ ap (trial_outcome L p) (same_tree rows not_legal)
 
 -- an open that meets its promise does what the trial tells of it
 pub open_as_told : (L p : ℕ) (before : Plan) (a : Answer) (after : Plan) → Meets (open_line L p) before a after → BroughtAbout (trial_outcome L p (tree_of before)) a (tree_of before) (tree_of after)
 open_as_told L p before a after opened_is =
-    rw (opened_is.answer_is, opened_is.plan_is, plan_after_tree (open_line L p) before) (open_brings_about L p (tree_of before) (treeOf_legal before))
+    rw (opened_is.answer_is, opened_is.plan_is, plan_after_tree (open_line L p) before) (open_brings_about L p (tree_of before) (tree_of_legal before))
 
 -- the same of an open on a record that is lent
-pub open_rows_as_told : (L p : ℕ) (before after : List ℕ) (a : Answer) → CarriedOut (open_line L p) before after a → BroughtAbout (trial_outcome L p (tree_of before)) a (tree_of before) (tree_of after)
-unfolding tree_of
+pub open_rows_as_told : (L p : ℕ) (before after : List ℕ) (a : Answer) → CarriedOut (open_line L p) before after a → BroughtAbout (trial_outcome L p (tree_of_rows before)) a (tree_of_rows before) (tree_of_rows after)
+unfolding tree_of_rows
 open_rows_as_told L p before after a carried = open_as_told L p (plan_of before) a (plan_of after) (carried_meets (open_line L p) (plan_of before) after a carried)
 
 pub opened_as_tried : (L p : ℕ) (before : Plan) (told : TrialAnswer) (a : OpenAnswer) (after : Plan) →

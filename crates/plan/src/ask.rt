@@ -4,7 +4,7 @@ ghost use Rattle.std.specs.Prelude.{◌≡◌};
 ghost use Rattle.tree.specs.Asking.{owner_or_rest};
 ghost use Rattle.tree.specs.Calls.{turns_outcome};
 ghost use Rattle.tree.specs.Record.{tree_of};
-ghost use Rattle.bridge.specs.Rows.{tree_of};
+ghost use Rattle.bridge.specs.Rows.{tree_of_rows};
 ghost use Rattle.plan.specs.Ask.{owner_answer, turns_answer, ShownAs, refused_showing};
 
 use crate::lookup::find_line;
@@ -43,7 +43,7 @@ pub enum TurnsAnswer {
 
 // The owner of a round, or its rest, by a record that is lent. It never refuses. The next owned round may be past 2^64.
 pub fn owner_rows(rows: &[u16; 1408], round: u64) -> OwnerAnswer
-    ensures { owner_answer result ≡ owner_or_rest round (tree_of rows.now) }
+    ensures { owner_answer result ≡ owner_or_rest round (tree_of_rows rows.now) }
 {
     if !paths::legal(rows) {
         return OwnerAnswer::Idle(0);
@@ -76,7 +76,7 @@ fn refused(number: u8) -> Showing
 
 // Shows a line of a record that is lent: its period, its start and its path, or a refusal with 1 or 4.
 pub fn show_rows(rows: &[u16; 1408], line: u64) -> Showing
-    ensures { ShownAs line (tree_of rows.now) result.answer result.rows }
+    ensures { ShownAs line (tree_of_rows rows.now) result.answer result.rows }
 {
     if 63 < line {
         return refused(1);
@@ -106,7 +106,7 @@ pub fn show(plan: Plan, line: u64) -> Showing
 // Turns by a record that is lent: how many rounds a line owns among so many that begin with `first`, or a refusal with 1
 // or 4. The rounds are whole numbers and may pass 2^64.
 pub fn turns_rows(rows: &[u16; 1408], line: u64, first: u64, rounds: u32) -> TurnsAnswer
-    ensures { turns_answer result ≡ turns_outcome line first rounds (tree_of rows.now) }
+    ensures { turns_answer result ≡ turns_outcome line first rounds (tree_of_rows rows.now) }
 {
     if 63 < line {
         return TurnsAnswer::Refused(1);

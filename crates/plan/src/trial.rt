@@ -3,7 +3,7 @@
 ghost use Rattle.std.specs.Prelude.{◌≡◌};
 ghost use Rattle.tree.specs.Record.{tree_of};
 ghost use Rattle.tree.specs.Trial.{trial_outcome};
-ghost use Rattle.bridge.specs.Rows.{tree_of};
+ghost use Rattle.bridge.specs.Rows.{tree_of_rows};
 ghost use Rattle.trials.specs.Answers.{trial_answer};
 ghost use Rattle.plan.specs.Tried.{OpenedAsTried};
 
@@ -15,7 +15,7 @@ use trials::TrialAnswer;
 // What an open of a line in a record that is lent would do: its start, how many nodes it would add and if it would
 // split one; or the number with which it would be refused: 1, 2, 3 or 5, the first that applies.
 pub fn trial_rows(rows: &[u16; 1408], line: u64, period: Period) -> TrialAnswer
-    ensures { trial_answer result ≡ trial_outcome line period.0 (tree_of rows.now) }
+    ensures { trial_answer result ≡ trial_outcome line period.0 (tree_of_rows rows.now) }
 {
     if paths::legal(rows) {
         return trials::trial_line(rows, line, period);

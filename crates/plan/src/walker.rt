@@ -1,6 +1,6 @@
 // The walker: the owners of successive rounds, one for each call, and the rest of each that is idle.
 ghost use Rattle.tree.specs.Record.{tree_of};
-ghost use Rattle.bridge.specs.Rows.{tree_of};
+ghost use Rattle.bridge.specs.Rows.{tree_of_rows};
 ghost use Rattle.plan.specs.Walker.{WalkedOn};
 
 use crate::ask;
@@ -32,7 +32,7 @@ pub struct Walked {
 // The owner of the next round by a record that is lent, and the place moved on. Refused with 9, and the place as found,
 // where either number is 2^64 - 1.
 pub fn walk_rows(rows: &[u16; 1408], place: WalkerPlace) -> Walked
-    ensures { WalkedOn place (tree_of rows.now) result.answer result.place }
+    ensures { WalkedOn place (tree_of_rows rows.now) result.answer result.place }
 {
     let refused = Walked {
         answer: WalkAnswer::Refused(9),

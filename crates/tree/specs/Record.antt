@@ -98,5 +98,5 @@ unfoldable pub numbers_below : ℕ → Tree → List ℕ
 numbers_below zero t = []
 numbers_below (suc n) t = numbers_below n t ++ numbers (rows_11 (path_of n t))
 
-unfoldable pub recordOf : Tree → Plan
-recordOf t = record { rows = numbers_below 64 t }
+unfoldable pub record_of : Tree → Plan
+record_of t = record { rows = numbers_below 64 t }

@@ -13,7 +13,7 @@ use Rattle.tree.specs.Trial.{Trial, trial, trial_outcome}
 use Rattle.tree.specs.Record.{path_at}
 use Rattle.paths.specs.Rules.{Spot, trial_at}
 use Rattle.tree.proofs.Trials.{trial_empty}
-use Rattle.bridge.specs.Rows.{plan_of, tree_of}
+use Rattle.bridge.specs.Rows.{plan_of, tree_of_rows}
 use Rattle.bridge.proofs.FirstRecord.{all_closed_nothing}
 use Rattle.bridge.proofs.CallsOnRecords.{first_not_refused, not_refused}
 use Rattle.bridge.proofs.TrialOnPaths.{trial_at_is}
@@ -23,18 +23,18 @@ use Rattle.lines.proofs.OpenLine.{all_closed, found_spot, may_open_at, product_f
 use Rattle.trials.specs.Tryable.{Tryable}
 
 module _ (rows : List ℕ) (L p : ℕ) where
-  pub trial_refused : (n : ℕ) → open_refusal L p (tree_of rows) ≡ some n → refuses n ≡ trial_outcome L p (tree_of rows)
+  pub trial_refused : (n : ℕ) → open_refusal L p (tree_of_rows rows) ≡ some n → refuses n ≡ trial_outcome L p (tree_of_rows rows)
   unfolding trial_outcome gives_unless
   trial_refused n refused = rw refused
 
-  not_refused_gives : open_refusal L p (tree_of rows) ≡ none → gives (trial L p (tree_of rows)) ≡ trial_outcome L p (tree_of rows)
+  not_refused_gives : open_refusal L p (tree_of_rows rows) ≡ none → gives (trial L p (tree_of_rows rows)) ≡ trial_outcome L p (tree_of_rows rows)
   unfolding trial_outcome gives_unless
   not_refused_gives allowed = rw allowed
 
   -- Under the root of an empty plan
 
-  pub trial_first : Bookable rows L p → length rows ≡ 1408 → ClosedFrom rows 0 → gives (record { start = 0; added = 1; split = false }) ≡ trial_outcome L p (tree_of rows)
-  unfolding tree_of
+  pub trial_first : Bookable rows L p → length rows ≡ 1408 → ClosedFrom rows 0 → gives (record { start = 0; added = 1; split = false }) ≡ trial_outcome L p (tree_of_rows rows)
+  unfolding tree_of_rows
   trial_first ready long closed =
       let empty = all_closed_nothing (plan_of rows) ready.is_legal (all_closed closed) in
       sym (ap gives (ap (trial L p) empty ∙ trial_empty L p))
@@ -54,8 +54,8 @@ module _ (rows : List ℕ) (L p : ℕ) where
           product_in_range = product_fits rows L p s ready_at long;
         }
 
-    pub trial_booked : {told : Trial} → told ≡ trial_at (path_at rows) p s → gives told ≡ trial_outcome L p (tree_of rows)
-    unfolding tree_of
+    pub trial_booked : {told : Trial} → told ≡ trial_at (path_at rows) p s → gives told ≡ trial_outcome L p (tree_of_rows rows)
+    unfolding tree_of_rows
     trial_booked counted =
         let ready = ready_at.bookable in
         ap gives (counted ∙ trial_at_is (plan_of rows) L p s ready.is_legal long (may_open_at rows L p s ready_at long) (found_spot rows L p s ready_at long))

@@ -6,7 +6,7 @@ ghost use Rattle.tree.specs.Record.{path_at, legal};
 ghost use Rattle.tree.specs.Trial.{trial_outcome};
 ghost use Rattle.paths.specs.Rules.{classes_taken, own_nodes, trial_at};
 ghost use Rattle.candidates.specs.Answers.{spot_in};
-ghost use Rattle.bridge.specs.Rows.{tree_of};
+ghost use Rattle.bridge.specs.Rows.{tree_of_rows};
 ghost use Rattle.trials.specs.Answers.{trial_told, trial_answer};
 ghost use Rattle.trials.specs.Tryable.{Tryable};
 
@@ -91,7 +91,7 @@ fn trial_at(rows: &[u16; 1408], period: Period, spot: Spot) -> Trial
 // A trial: the open's refusal; or the figures of a first line, which gets the root; or those of a booking at the chosen candidate.
 pub fn trial_line(rows: &[u16; 1408], line: u64, period: Period) -> TrialAnswer
     requires { legal rows.now ≡ true }
-    ensures { trial_answer result ≡ trial_outcome line period.0 (tree_of rows.now) }
+    ensures { trial_answer result ≡ trial_outcome line period.0 (tree_of_rows rows.now) }
 {
     paths::whole(rows);
     let checked = lines::check::check_open(rows, line, period);

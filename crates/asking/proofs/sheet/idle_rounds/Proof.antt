@@ -3,13 +3,13 @@
 use Prim.Native.Nat.{◌+◌, ◌-◌}
 use native.Mathlib.Omega.{arith}
 use borrow.Author.Rules.{rules}
-use Rattle.bridge.specs.Rows.{tree_of}
+use Rattle.bridge.specs.Rows.{tree_of_rows}
 use Rattle.asking.proofs.SheetFigures.{IdleAmong, none_walked, idle_at_most, one_more_walked, all_walked}
 use Rattle.asking.proofs.sheet.idle_rounds.Statement.{statement}
 use Rattle.asking.proofs.sheet.idle_rounds.Tie as tie
 
 abbrev invariant-loop : tie.invariant-loop
-invariant-loop rows first rounds idle₀ ahead₀ idle ahead = IdleAmong (tree_of rows) first rounds idle ahead
+invariant-loop rows first rounds idle₀ ahead₀ idle ahead = IdleAmong (tree_of_rows rows) first rounds idle ahead
 
 abbrev decreases-loop : tie.decreases-loop
 decreases-loop rows first rounds idle₀ ahead₀ idle ahead = rounds - ahead
@@ -24,7 +24,7 @@ idle-at-requires c κs = search rules
 next-walked : (c : tie.After-idle-at invariant-loop decreases-loop) →
     let loop = c.before.before.loop in
     let start = c.before.before.before in
-    IdleAmong (tree_of start.args.rows.now) start.args.first start.args.rounds (loop.idle + c.idle-at.result) (loop.ahead + 1)
+    IdleAmong (tree_of_rows start.args.rows.now) start.args.first start.args.rounds (loop.idle + c.idle-at.result) (loop.ahead + 1)
 next-walked c =
     let in-loop = c.before in
     one_more_walked in-loop.before.loop.invariant (omega (arith, in-loop.loop-test.true)) c.idle-at.ensures

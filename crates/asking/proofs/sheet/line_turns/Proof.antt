@@ -5,7 +5,7 @@ use native.Mathlib.Omega.{arith}
 use mathlib.Core.Path.{◌≡◌, sym, ◌∙◌}
 use borrow.Author.Rules.{rules}
 use Rattle.tree.specs.Sheet.{line_turns}
-use Rattle.bridge.specs.Rows.{tree_of}
+use Rattle.bridge.specs.Rows.{tree_of_rows}
 use Rattle.paths.proofs.PathNumbers.{path_start_below}
 use Rattle.asking.proofs.SheetFigures.{turns_of_closed, turns_of_open}
 use Rattle.asking.proofs.sheet.line_turns.Statement.{statement}
@@ -30,7 +30,7 @@ turns-of-requires c κs =
 -- the line is open: its turns, and that they are no more than the rounds
 counted : (c : tie.After-turns-of) →
     let start = c.before.before.before.before in
-    (c.turns_of.result ≡ line_turns start.args.line start.args.first start.args.rounds (tree_of start.args.rows.now)) × (c.turns_of.result ≤ start.args.rounds)
+    (c.turns_of.result ≡ line_turns start.args.line start.args.first start.args.rounds (tree_of_rows start.args.rows.now)) × (c.turns_of.result ≤ start.args.rounds)
 counted c =
     let timed = c.before in
     let given = timed.before.before.before.requires in

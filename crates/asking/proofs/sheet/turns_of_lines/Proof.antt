@@ -4,13 +4,13 @@
 use Prim.Native.Nat.{◌-◌}
 use borrow.Author.Rules.{rules}
 use Rattle.tree.specs.Sheet.{line_turns}
-use Rattle.bridge.specs.Rows.{tree_of}
+use Rattle.bridge.specs.Rows.{tree_of_rows}
 use Rattle.paths.proofs.Filled.{Filled, filled_none, filled_more, filled_all}
 use Rattle.asking.proofs.sheet.turns_of_lines.Statement.{statement}
 use Rattle.asking.proofs.sheet.turns_of_lines.Tie as tie
 
 abbrev invariant-loop : tie.invariant-loop
-invariant-loop rows first rounds turns₀ line₀ turns line = Filled 0 64 (λ L. line_turns L first rounds (tree_of rows)) turns line
+invariant-loop rows first rounds turns₀ line₀ turns line = Filled 0 64 (λ L. line_turns L first rounds (tree_of_rows rows)) turns line
 
 abbrev decreases-loop : tie.decreases-loop
 decreases-loop rows first rounds turns₀ line₀ turns line = 64 - line

@@ -8,7 +8,7 @@ use borrow.Author.Tests.{not-true, not-false}
 use Rattle.tree.specs.Asking.{owner}
 use Rattle.tree.specs.Record.{legal}
 use Rattle.tree.proofs.Resting.{owned_exactly, idle_exactly}
-use Rattle.bridge.specs.Rows.{tree_of}
+use Rattle.bridge.specs.Rows.{tree_of_rows}
 use Rattle.bridge.proofs.AskingRecords.{owner_on_illegal, owner_on_record}
 use Rattle.asking.specs.Answers.{owner_answered}
 use Rattle.plan.specs.Ask.{owner_answer}
@@ -27,7 +27,7 @@ is-tree : (c : tie.After-owner-of) → legal c.before.before.before.args.rows.no
 is-tree c = sym c.before.before.legal.ensures ∙ not-false _ c.before.if1.false
 
 -- no round ahead: what it found is the owner of the round
-walk-found : (c : tie.After-owner-of) → owner_answered c.owner_of.result ≡ owner c.before.before.before.args.round (tree_of c.before.before.before.args.rows.now)
+walk-found : (c : tie.After-owner-of) → owner_answered c.owner_of.result ≡ owner c.before.before.before.args.round (tree_of_rows c.before.before.before.args.rows.now)
 walk-found c = rw add-zero at (c.owner_of.ensures ∙ owner_on_record _ (is-tree c) _)
 
 owner-of-requires : tie.Need-owner-of-requires

@@ -1,7 +1,7 @@
 -- `plan::ask::show` meets its contract, by that of `show_rows`.
 -- Assumes nothing.
 use borrow.Author.Rules.{rules}
-use Rattle.bridge.specs.Rows.{tree_of}
+use Rattle.bridge.specs.Rows.{tree_of_rows}
 use Rattle.plan.proofs.ask.show.Statement.{statement}
 use Rattle.plan.proofs.ask.show.Tie as tie
 
@@ -9,7 +9,7 @@ show-rows-requires : tie.Need-show-rows-requires
 show-rows-requires c κs = search rules
 
 returns : tie.Need-returns
-unfolding tree_of
+unfolding tree_of_rows
 returns c = c.show-rows.ensures
 
 pub show-spec : {M : Type 1} → statement M

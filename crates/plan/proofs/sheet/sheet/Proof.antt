@@ -1,7 +1,7 @@
 -- `plan::sheet::sheet` meets its contract, by that of `sheet_rows`.
 -- Assumes nothing.
 use borrow.Author.Rules.{rules}
-use Rattle.bridge.specs.Rows.{tree_of}
+use Rattle.bridge.specs.Rows.{tree_of_rows}
 use Rattle.plan.proofs.sheet.sheet.Statement.{statement}
 use Rattle.plan.proofs.sheet.sheet.Tie as tie
 
@@ -9,7 +9,7 @@ sheet-rows-requires : tie.Need-sheet-rows-requires
 sheet-rows-requires c κs = search rules
 
 returns : tie.Need-returns
-unfolding tree_of
+unfolding tree_of_rows
 returns c = c.sheet-rows.ensures
 
 pub sheet-spec : {M : Type 1} → statement M

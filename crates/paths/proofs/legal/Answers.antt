@@ -1,0 +1,19 @@
+use Prim.Native.Nat.{◌-◌}
+use native.Mathlib.Omega.{arith}
+use mathlib.Core.Path.{sym, ◌∙◌}
+use Rattle.paths.specs.Answers.{line_legal}
+use Rattle.paths.proofs.AllBelow.{so_far_none, so_far_more, tested_fault, tested_all}
+use Rattle.paths.proofs.LegalLines.{legal_by_lines}
+use Rattle.paths.proofs.legal.Goals as goal
+
+pub loop-line-init : goal.loop-line-init
+loop-line-init c = so_far_none _ _
+
+pub returns-then-not-line_legal : goal.returns-then-not-line_legal
+returns-then-not-line_legal c = sym (legal_by_lines _ ∙ tested_fault c.loop-line.invariant (omega arith) (sym c.line_legal.ensures ∙ c.if-not-line_legal.true))
+
+pub loop-line-preserved : goal.loop-line-preserved
+loop-line-preserved c = so_far_more c.loop-line.invariant (omega arith) (sym c.line_legal.ensures ∙ c.if-not-line_legal.false)
+
+pub returns : goal.returns
+returns c = sym (legal_by_lines _ ∙ tested_all c.loop-line.invariant (omega arith))
