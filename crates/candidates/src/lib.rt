@@ -148,7 +148,7 @@ fn better(
     period: Period,
     best: Chosen,
 ) -> Chosen
-    requires line_bound { (line < 64) × (legal rows.now ≡ true) × (level < length (path_at rows.now line)) × ClosedFrom rows.now end }
+    requires in_record { (line < 64) × (legal rows.now ≡ true) × (level < length (path_at rows.now line)) × ClosedFrom rows.now end }
     requires reached { Reached (path_at rows.now) period.0 line level step offset (spot_of best) }
     ensures { spot_of result ≡ better_spot (spot_of best) (spot_at (path_at rows.now) period.0 line level) }
 {
@@ -176,8 +176,8 @@ fn best_on_path(
     period: Period,
     earlier: Chosen,
 ) -> Chosen
-    requires line_bound { (line < 64) × (legal rows.now ≡ true) × ClosedFrom rows.now end }
-    requires earlier_value { spot_of earlier ≡ best_of_lines (path_at rows.now) period.0 line }
+    requires in_record { (line < 64) × (legal rows.now ≡ true) × ClosedFrom rows.now end }
+    requires best_before { spot_of earlier ≡ best_of_lines (path_at rows.now) period.0 line }
     ensures { spot_of result ≡ best_on_path (path_at rows.now) period.0 (spot_of earlier) line (length (path_at rows.now line)) }
 {
     let count = path_length(rows, line);
