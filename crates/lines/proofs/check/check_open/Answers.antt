@@ -1,0 +1,36 @@
+-- `lines::check::check_open` meets its contract: one law for each check that refuses, else what the search finds.
+-- Assumes nothing.
+use native.Mathlib.Omega.{arith}
+use mathlib.Core.Path.{sym, ◌∙◌}
+use Rattle.tree.proofs.Checks.{open_refused_1, open_refused_2, zero_out_of_range, above_out_of_range, period_in_range}
+use Rattle.lines.specs.Checks.{OpenChecked}
+use Rattle.lines.proofs.OpenLine.{open_again, checked_if_bookable}
+use Rattle.lines.proofs.check.check_open.Goals as goal
+
+pub returns-then-line-gt63 : goal.returns-then-line-gt63
+unfolding OpenChecked
+returns-then-line-gt63 c = open_refused_1 _ _ _ c.if-line-gt63.true
+
+pub returns-then-period-eq0 : goal.returns-then-period-eq0
+unfolding OpenChecked
+returns-then-period-eq0 c = open_refused_2 _ _ _ c.if-line-gt63.false (zero_out_of_range _ c.if-period-eq0.true)
+
+pub returns-then-period-gt4095 : goal.returns-then-period-gt4095
+unfolding OpenChecked
+returns-then-period-gt4095 c = open_refused_2 _ _ _ c.if-line-gt63.false (above_out_of_range _ (omega (arith, c.if-period-eq0.false)) c.if-period-gt4095.true)
+
+pub returns-then-not-is_closed : goal.returns-then-not-is_closed
+unfolding OpenChecked
+returns-then-not-is_closed c =
+    open_again _ _ _ c.requires c.if-line-gt63.false
+    (period_in_range _ (omega (arith, c.if-period-eq0.false)) c.if-period-gt4095.false)
+    (sym c.is_closed.ensures ∙ c.if-not-is_closed.true)
+
+pub returns : goal.returns
+returns c =
+    checked_if_bookable _ _ _ (record {
+      is_legal = c.requires;
+      number = c.if-line-gt63.false;
+      inside = period_in_range _ (omega (arith, c.if-period-eq0.false)) c.if-period-gt4095.false;
+      absent = sym c.is_closed.ensures ∙ c.if-not-is_closed.false;
+    }) _ c.find_room.ensures
