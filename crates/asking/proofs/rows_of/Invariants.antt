@@ -7,7 +7,7 @@ use Rattle.paths.proofs.Filled.{Filled}
 use Rattle.asking.proofs.rows_of.Given as goal
 
 abbrev pub invariant-loop-row : goal.invariant-loop-row
-invariant-loop-row l = Filled (row 0 0) 11 (row_at l.rows l.line) l.path l.k
+invariant-loop-row l = Filled (row 0 0) 11 (row_at l.rows l.line) l.path l.row
 
 abbrev pub decreases-loop-row : goal.decreases-loop-row
-decreases-loop-row l = 11 - l.k
+decreases-loop-row l = 11 - l.row

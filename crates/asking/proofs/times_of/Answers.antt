@@ -10,20 +10,23 @@ pub loop-k-init : goal.loop-k-init
 loop-k-init c = carried_start c.args.rows.now c.args.line
 
 pub overflow_mul-sum : goal.overflow_mul-sum
-overflow_mul-sum c = omega (arith, (carried_small (let inv = c.loop-k.invariant in
-    carried_row inv (path_goes_on _ _ inv.within c.loop-k-test.true c.weight-w.ensures c.if-w-eq0.false) c.edge.ensures c.weight-w.ensures) c.requires.0 c.requires.1).1)
+overflow_mul-sum c =
+    let row = carried_row c.loop-k.invariant (path_goes_on _ _ c.loop-k.invariant.within c.loop-k-test.true c.weight-w.ensures c.if-w-eq0.false) c.edge.ensures c.weight-w.ensures in
+    omega (arith, (carried_small row c.requires.0 c.requires.1).1)
 
 pub overflow_add-sum : goal.overflow_add-sum
-overflow_add-sum c = omega (arith, (carried_small (let inv = c.loop-k.invariant in
-    carried_row inv (path_goes_on _ _ inv.within c.loop-k-test.true c.weight-w.ensures c.if-w-eq0.false) c.edge.ensures c.weight-w.ensures) c.requires.0 c.requires.1).1, (le-mul_of_pos_right c.edge.result (omega (arith, carried_below c.loop-k.invariant c.requires.0 c.requires.1))))
+overflow_add-sum c =
+    let row = carried_row c.loop-k.invariant (path_goes_on _ _ c.loop-k.invariant.within c.loop-k-test.true c.weight-w.ensures c.if-w-eq0.false) c.edge.ensures c.weight-w.ensures in
+    omega (arith, (carried_small row c.requires.0 c.requires.1).1, le-mul_of_pos_right {m = c.loop-k.product} c.edge.result (omega (arith, carried_below c.loop-k.invariant c.requires.0 c.requires.1)))
 
 pub overflow_mul-product : goal.overflow_mul-product
-overflow_mul-product c = omega (arith, (carried_small (let inv = c.loop-k.invariant in
-    carried_row inv (path_goes_on _ _ inv.within c.loop-k-test.true c.weight-w.ensures c.if-w-eq0.false) c.edge.ensures c.weight-w.ensures) c.requires.0 c.requires.1).0)
+overflow_mul-product c =
+    let row = carried_row c.loop-k.invariant (path_goes_on _ _ c.loop-k.invariant.within c.loop-k-test.true c.weight-w.ensures c.if-w-eq0.false) c.edge.ensures c.weight-w.ensures in
+    omega (arith, (carried_small row c.requires.0 c.requires.1).0)
 
 pub loop-k-preserved : goal.loop-k-preserved
-loop-k-preserved c = (let inv = c.loop-k.invariant in
-    carried_row inv (path_goes_on _ _ inv.within c.loop-k-test.true c.weight-w.ensures c.if-w-eq0.false) c.edge.ensures c.weight-w.ensures)
+loop-k-preserved c =
+    carried_row c.loop-k.invariant (path_goes_on _ _ c.loop-k.invariant.within c.loop-k-test.true c.weight-w.ensures c.if-w-eq0.false) c.edge.ensures c.weight-w.ensures
 
 pub returns-after-loop-k : goal.returns-after-loop-k
 returns-after-loop-k c = carried_all c.loop-k.invariant (omega (arith, path_length_at_most_11 c.args.rows.now c.args.line))
