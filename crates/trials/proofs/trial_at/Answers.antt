@@ -3,6 +3,7 @@
 use native.Mathlib.Omega.{arith}
 use mir.Syntax.{w16}
 use borrow.Author.Rules.{Fits-under}
+use borrow.Author.Tests.{lt-ltb, le-ltb}
 use Rattle.paths.proofs.PathRows.{within_path}
 use Rattle.trials.proofs.TrialAt.{below_65536, divisor_positive, divisor_at_most, told_whole, told_split, classes_at_most, own_at_most}
 use Rattle.trials.proofs.trial_at.Goals as goal
@@ -20,7 +21,7 @@ pub weight-requires : goal.weight-requires
 weight-requires c = let ready = c.requires in (ready.line_below, within_path _ _ ready.on_path)
 
 pub returns-then-not-split : goal.returns-then-not-split
-returns-then-not-split c = told_whole _ _ _ c.requires.on_path c.weight.ensures c.start_in-start.ensures c.own_nodes-own.ensures c.if-not-split.true
+returns-then-not-split c = told_whole _ _ _ c.requires.on_path c.weight.ensures c.start_in-start.ensures c.own_nodes-own.ensures (le-ltb _ _ c.if-not-split.true)
 
 pub classes_taken-requires : goal.classes_taken-requires
 classes_taken-requires c =
@@ -38,4 +39,4 @@ overflow_add-added c =
     Fits-under w16 _ _ (below_65536 _ (omega (arith, ready.product_in_range))) tt
 
 pub returns : goal.returns
-returns c = told_split _ _ _ c.requires.on_path c.weight.ensures c.start_in-start.ensures c.own_nodes-own.ensures c.if-not-split.false c.classes_taken.ensures
+returns c = told_split _ _ _ c.requires.on_path c.weight.ensures c.start_in-start.ensures c.own_nodes-own.ensures (lt-ltb _ _ c.if-not-split.false) c.classes_taken.ensures
