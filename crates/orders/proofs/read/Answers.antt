@@ -1,6 +1,5 @@
 -- `orders::read` meets its contract: the fields that it goes by are the order's, and each return is one law of ReadingChecks.
 -- Assumes nothing.
-use borrow.Author.Rules.{rules}
 use native.Mathlib.Omega.{arith}
 use Prim.Native.Nat.{ℕ, ◌<◌}
 use mathlib.Core.Path.{◌≡◌, sym, ap, ap₂, ◌∙◌}
@@ -9,8 +8,7 @@ use Rattle.orders.specs.declared.OrderFields.{OrderFields}
 use Rattle.orders.specs.Order.{kind, line, period, filler, fields_of}
 use Rattle.orders.specs.Reading.{reading, read_as}
 use Rattle.orders.proofs.ReadingChecks.{open_read, close_read, kind_unread, filler_unread, close_unread}
-use Rattle.orders.proofs.read.Statement.{statement}
-use Rattle.orders.proofs.read.Tie as tie
+use Rattle.orders.proofs.read.Goals as goal
 
 -- the fields found, f, are those of the order n
 module _ {f : OrderFields} (n : ℕ) (found : f ≡ fields_of n) where
@@ -49,30 +47,24 @@ module _ {f : OrderFields} (n : ℕ) (found : f ≡ fields_of n) where
   close-refuses : f.kind ≡ 1 → (f.period.0 ≡ 0 → ⊥) → refuses 6 ≡ reading n
   close-refuses k p = sym (close_unread n (sym kind-found ∙ k) (λ e. p (period-found ∙ e)))
 
-fields-requires : tie.Need-fields-requires
-fields-requires c κs = search rules
-
-returns : tie.Need-returns
+pub returns-then-found-ne0 : goal.returns-then-found-ne0
 unfolding read_as
-returns c = filler-refuses _ c.before.before.before.fields.ensures c.if1.true
+returns-then-found-ne0 c = filler-refuses _ c.fields-found.ensures c.if-found-ne0.true
 
-returns-2 : tie.Need-returns-2
+pub returns-then-period-ne0 : goal.returns-then-period-ne0
 unfolding read_as
-returns-2 c = close-refuses _ c.before.before.before.before.before.before.fields.ensures c.before.before.match.keys2 c.if2.true
+returns-then-period-ne0 c = close-refuses _ c.fields-found.ensures c.in-1.is c.if-period-ne0.true
 
-returns-3 : tie.Need-returns-3
+pub returns-in-0 : goal.returns-in-0
 unfolding read_as
-returns-3 c = opens _ c.before.before.before.before.fields.ensures c.match.keys1 c.before.if1.false
+returns-in-0 c = opens _ c.fields-found.ensures c.in-0.is c.if-found-ne0.false
 
-returns-4 : tie.Need-returns-4
+pub returns-else-period-ne0 : goal.returns-else-period-ne0
 unfolding read_as
-returns-4 c =
-    closes _ c.before.before.before.before.before.before.fields.ensures
-    c.before.before.match.keys2 c.before.before.before.if1.false c.if2.false
+returns-else-period-ne0 c =
+    closes _ c.fields-found.ensures
+    c.in-1.is c.if-found-ne0.false c.if-period-ne0.false
 
-returns-5 : tie.Need-returns-5
+pub returns-in-2-to-18446744073709551615 : goal.returns-in-2-to-18446744073709551615
 unfolding read_as
-returns-5 c = kind-refuses _ c.before.before.before.before.fields.ensures (omega (arith, c.match.rest.1, c.match.rest.0.1))
-
-pub read_spec : {M : Type 1} → statement M
-read_spec = tie.close (tie.spec fields-requires returns returns-2 returns-3 returns-4 returns-5)
+returns-in-2-to-18446744073709551615 c = kind-refuses _ c.fields-found.ensures (omega arith)
