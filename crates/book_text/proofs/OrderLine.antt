@@ -9,7 +9,7 @@ use Rattle.tree.specs.Calls.{Answer, booked, done, refused}
 use Rattle.orders.specs.Field.{field, joined}
 use Rattle.orders.specs.Order.{kind, line, period, fields_of}
 use Rattle.orders.proofs.FieldLaws.{field_below}
-use Rattle.lists.specs.Lists.{result, start, answer_word, high_byte, low_byte}
+use Rattle.lists.specs.Lists.{result_field, start, answer_word, high_byte, low_byte}
 use Rattle.book_text.specs.BookText.{decimal, text_line, start_word, order_line}
 use Rattle.book_text.specs.Writing.{line_printed}
 use Rattle.book_text.proofs.Decimal.{one_digit_length, two_digits_length, four_digits_length, five_digits_length}
@@ -18,7 +18,7 @@ use Rattle.book_text.proofs.Printable.{Printable}
 -- The parts of the two bytes
 
 module _ (k : ℕ) (a : Answer) (printable : Printable k a) where
-  pub result_in_bytes : high_byte a / 16 ≡ result a
+  pub result_in_bytes : high_byte a / 16 ≡ result_field a
   unfolding high_byte answer_word field joined
   result_in_bytes = omega arith
 
@@ -33,9 +33,9 @@ pub line_from_bytes : (number n high low : ℕ) (a : Answer) → Printable (kind
 unfolding line_printed fields_of order_line
 line_from_bytes number n high low a printable high_is low_is =
     ap₂ (λ (x s : ℕ). line_printed number (fields_of n) x s) result_is start_is
-    ∙ ap (λ (w : List ℕ). text_line (decimal number ∷ decimal (kind n) ∷ decimal (line n) ∷ decimal (period n) ∷ decimal (result a) ∷ w ∷ [])) printable.start_same
+    ∙ ap (λ (w : List ℕ). text_line (decimal number ∷ decimal (kind n) ∷ decimal (line n) ∷ decimal (period n) ∷ decimal (result_field a) ∷ w ∷ [])) printable.start_same
   where
-    result_is : high / 16 ≡ result a
+    result_is : high / 16 ≡ result_field a
     result_is = ap (λ (x : ℕ). x / 16) high_is ∙ result_in_bytes (kind n) a printable
 
     start_is : high % 16 * 256 + low ≡ start a
@@ -54,6 +54,6 @@ order_line_length number n a few printable =
     let kind_digits = one_digit_length (kind n) (omega (arith, field_below 2 22 n)) in
     let line_digits = two_digits_length (line n) (omega (arith, field_below 6 16 n)) in
     let period_digits = four_digits_length (period n) (omega (arith, field_below 12 4 n)) in
-    let result_digits = one_digit_length (result a) printable.result_small in
+    let result_digits = one_digit_length (result_field a) printable.result_small in
     let start_digits = start_word_length (kind n) a printable in
     simp length-append (omega arith)

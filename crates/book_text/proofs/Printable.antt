@@ -17,7 +17,7 @@ use Rattle.tree.proofs.Opening.{opened_legal}
 use Rattle.tree.proofs.Closing.{closed_legal}
 use Rattle.orders.specs.Order.{kind, line, period}
 use Rattle.orders.specs.Reading.{reading_refusal, call_of, reading}
-use Rattle.lists.specs.Lists.{answer_read, after_read, order_answer, order_after, list_answers, result, start}
+use Rattle.lists.specs.Lists.{answer_read, after_read, order_answer, order_after, list_answers, result_field, start}
 use Rattle.lists.proofs.AnswersFit.{Small, refusal_small, reading_small, order_answer_fits}
 use Rattle.book_text.specs.BookText.{start_word}
 use Rattle.book_text.specs.Writing.{start_printed}
@@ -27,11 +27,11 @@ use Rattle.book_text.proofs.StartWord.{start_of_opened, start_of_other_kind, sta
 
 -- the result and the last word of an answer to an order of kind k
 record Worded (k : ℕ) (a : Answer) : Type 0 where
-  result_small : result a < 10
-  start_same : start_printed k (result a) (start a) ≡ start_word a
+  result_small : result_field a < 10
+  start_same : start_printed k (result_field a) (start a) ≡ start_word a
 
 refused_worded : (k m : ℕ) → (0 < m) × (m < 10) → Worded k (refused m)
-unfolding result start start_word
+unfolding result_field start start_word
 refused_worded k m small = record { result_small = omega arith; start_same = by_kind (eqb k 0) refl }
   where
     not_0 : m ≡ 0 → ⊥
@@ -42,7 +42,7 @@ refused_worded k m small = record { result_small = omega arith; start_same = by_
     by_kind false e = start_of_other_kind k m 0 (eqb-false k 0 e)
 
 called_worded : (k L p : ℕ) (t : Tree) (o : Option ℕ) → Small o → Worded k (answer_unless o (reply (call_of k L p) t))
-unfolding Small answer_unless call_of reply result start start_word
+unfolding Small answer_unless call_of reply result_field start start_word
 called_worded k L p t (some m) small = refused_worded k m small
 called_worded zero L p t none small = record { result_small = omega arith; start_same = start_of_opened 0 0 _ refl refl }
 called_worded (suc k) L p t none small = record { result_small = omega arith; start_same = start_of_other_kind (suc k) 0 0 (λ e. omega arith) }
@@ -56,9 +56,9 @@ order_worded n t = by_reading (reading_refusal n) (reading_small n)
     by_reading none small = called_worded (kind n) (line n) (period n) t _ (refusal_small (call_of (kind n) (line n) (period n)) t)
 
 pub record Printable (k : ℕ) (a : Answer) : Type 0 where
-  pub result_small : result a < 10
+  pub result_small : result_field a < 10
   pub start_small : start a < 4096
-  pub start_same : start_printed k (result a) (start a) ≡ start_word a
+  pub start_same : start_printed k (result_field a) (start a) ≡ start_word a
 
 order_printable : (n : ℕ) (t : Tree) → Legal t → Printable (kind n) (order_answer n t)
 order_printable n t is_legal =

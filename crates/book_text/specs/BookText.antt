@@ -6,7 +6,7 @@ use Rattle.tree.specs.Search.{if◌then◌else◌}
 use Rattle.tree.specs.Tree.{nothing}
 use Rattle.tree.specs.Calls.{Answer, booked, done, refused}
 use Rattle.orders.specs.Order.{kind, line, period}
-use Rattle.lists.specs.Lists.{orders_of, list_answers, result, length_refused}
+use Rattle.lists.specs.Lists.{orders_of, list_answers, result_field, length_refused}
 use Rattle.book_text.specs.Ascii.{ascii}
 
 -- Words and lines
@@ -50,7 +50,7 @@ start_word (refused n) = code "-" ∷ []
 -- (Orders, 7) An order's number, its kind, line and period as the bits say, and what it answered.
 unfoldable pub order_line : ℕ → ℕ → Answer → List ℕ
 order_line number n a =
-    text_line (decimal number ∷ decimal (kind n) ∷ decimal (line n) ∷ decimal (period n) ∷ decimal (result a) ∷ start_word a ∷ [])
+    text_line (decimal number ∷ decimal (kind n) ∷ decimal (line n) ∷ decimal (period n) ∷ decimal (result_field a) ∷ start_word a ∷ [])
 
 -- (Orders, 7) a line for each order with its answer; the first has this number
 unfoldable pub order_lines : ℕ → List ℕ → List Answer → List ℕ

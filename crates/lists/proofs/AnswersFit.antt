@@ -17,7 +17,7 @@ use Rattle.tree.proofs.Opening.{opened_new}
 use Rattle.orders.specs.Order.{kind, period}
 use Rattle.orders.specs.Packing.{kind_above_1, close_with_period}
 use Rattle.orders.specs.Reading.{filler_set, reading_refusal, reading}
-use Rattle.lists.specs.Lists.{answer_read, order_answer, result, start}
+use Rattle.lists.specs.Lists.{answer_read, order_answer, result_field, start}
 
 -- a refusal of one digit that is not 0, if it is one
 unfoldable pub Small : Option ℕ → Type 0
@@ -43,15 +43,15 @@ reading_small n =
     (small_if (filler_set n) 6 _ (omega arith) (small_if (close_with_period (kind n) (period n)) 6 _ (omega arith) tt))
 
 pub record Fits (a : Answer) : Type 0 where
-  pub result_fits : result a < 16
+  pub result_fits : result_field a < 16
   pub start_fits : start a < 4096
 
 refused_fits : (n : ℕ) → (0 < n) × (n < 10) → Fits (refused n)
-unfolding result start
+unfolding result_field start
 refused_fits n small = record { result_fits = omega arith; start_fits = omega arith }
 
 reply_fits : (c : Call) (t : Tree) → Legal t → refusal c t ≡ none → Fits (reply c t)
-unfolding refusal reply result start
+unfolding refusal reply result_field start
 reply_fits (open_line L p) t is_legal allowed =
     let may = open_may L p t is_legal allowed in
     let below = start_below_period L (opened L p t) p (start_given p t) (opened_new L p t may) in

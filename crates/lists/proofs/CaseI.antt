@@ -14,7 +14,7 @@ use Rattle.orders.specs.Field.{field, joined}
 use Rattle.orders.specs.Order.{order_of, kind, line, period, filler}
 use Rattle.orders.specs.Packing.{kind_above_1, close_with_period}
 use Rattle.orders.specs.Reading.{filler_set, reading_refusal, call_of, reading}
-use Rattle.lists.specs.Lists.{answer_read, after_read, order_answer, order_after, orders_of, list_answers, result, start, answer_word, high_byte, low_byte, answer_bytes}
+use Rattle.lists.specs.Lists.{answer_read, after_read, order_answer, order_after, orders_of, list_answers, result_field, start, answer_word, high_byte, low_byte, answer_bytes}
 
 abbrev case_i : List ℕ
 case_i =
@@ -22,5 +22,5 @@ case_i =
 
 pub case_i_answers : answer_bytes (list_answers nothing (orders_of case_i)) ≡
     (0x00 ∷ 0x00 ∷ 0x00 ∷ 0x01 ∷ 0x50 ∷ 0x00 ∷ 0x00 ∷ 0x00 ∷ 0x50 ∷ 0x00 ∷ 0x40 ∷ 0x00 ∷ [])
-unfolding divides euclid gcd found or_else first smallest some_below all_below present product sum_from sum path is_open path_of period_of start_of at_digits at way_by_digits way step divisor free free_class candidate before better best_below under best chosen put one_edge group split newcomer booking book_by_digits class_at book_into opened start_in start_given prune closed first_refusal line_above_63 period_out_of_range no_room earlier_checks open_refusal line_refusal refusal reply carried_out answer_unless tree_unless answer after gives_unless show_outcome turns_outcome order_of field joined kind line period filler kind_above_1 close_with_period filler_set reading_refusal call_of reading answer_read after_read order_answer order_after orders_of list_answers result start answer_word high_byte low_byte answer_bytes
+unfolding divides euclid gcd found or_else first smallest some_below all_below present product sum_from sum path is_open path_of period_of start_of at_digits at way_by_digits way step divisor free free_class candidate before better best_below under best chosen put one_edge group split newcomer booking book_by_digits class_at book_into opened start_in start_given prune closed first_refusal line_above_63 period_out_of_range no_room earlier_checks open_refusal line_refusal refusal reply carried_out answer_unless tree_unless answer after gives_unless show_outcome turns_outcome order_of field joined kind line period filler kind_above_1 close_with_period filler_set reading_refusal call_of reading answer_read after_read order_answer order_after orders_of list_answers result_field start answer_word high_byte low_byte answer_bytes
 case_i_answers = refl

@@ -56,10 +56,10 @@ list_after t (n ∷ ns) = list_after (order_after n t) ns
 -- The answer bytes
 
 -- (Orders, 4) 0 or the refusal
-unfoldable pub result : Answer → ℕ
-result (booked s) = 0
-result done = 0
-result (refused n) = n
+unfoldable pub result_field : Answer → ℕ
+result_field (booked s) = 0
+result_field done = 0
+result_field (refused n) = n
 
 -- (Orders, 4) 0 unless a line was opened
 unfoldable pub start : Answer → ℕ
@@ -69,7 +69,7 @@ start (refused n) = 0
 
 -- (Orders, 4) result 4 bits, then start 12 bits
 unfoldable pub answer_word : Answer → ℕ
-answer_word a = joined 12 (result a) (start a)
+answer_word a = joined 12 (result_field a) (start a)
 
 -- (Orders, 4) its two bytes, the first one highest
 unfoldable pub high_byte : Answer → ℕ

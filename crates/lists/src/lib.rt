@@ -7,7 +7,7 @@ ghost use Rattle.tree.specs.Calls.{open_line, close_line};
 ghost use Rattle.tree.specs.Record.{legal};
 ghost use Rattle.bridge.specs.Rows.{plan_of, CarriedOut};
 ghost use Rattle.orders.specs.Order.{order_of};
-ghost use Rattle.lists.specs.Lists.{orders_of, result, start, answer_word, high_byte, low_byte, carried, length_refused, list_refusal};
+ghost use Rattle.lists.specs.Lists.{orders_of, result_field, start, answer_word, high_byte, low_byte, carried, length_refused, list_refusal};
 ghost use Rattle.lists.specs.Runs.{answer_in, refusal_in, OrderRan, Runnable, OrdersRan, CheckedRan, ListRan};
 
 use lines::{CloseAnswer, OpenAnswer};
@@ -39,7 +39,7 @@ pub struct ListResult {
 // An order that opens a line.
 fn run_open(rows: &mut [u16; 1408], line: u64, period: Period) -> OrderAnswer
     requires { legal rows.old ≡ true }
-    ensures* { λ r. ⌜ CarriedOut (open_line line period.0) rows.old rows.new (answer_in r) ⌝ }
+    ensures { CarriedOut (open_line line period.0) rows.old rows.new (answer_in result) }
 {
     let answer = lines::open_line(rows, line, period);
     match answer {
@@ -51,7 +51,7 @@ fn run_open(rows: &mut [u16; 1408], line: u64, period: Period) -> OrderAnswer
 // An order that closes a line.
 fn run_close(rows: &mut [u16; 1408], line: u64) -> OrderAnswer
     requires { legal rows.old ≡ true }
-    ensures* { λ r. ⌜ CarriedOut (close_line line) rows.old rows.new (answer_in r) ⌝ }
+    ensures { CarriedOut (close_line line) rows.old rows.new (answer_in result) }
 {
     let answer = lines::close_line(rows, line);
     match answer {
@@ -63,7 +63,7 @@ fn run_close(rows: &mut [u16; 1408], line: u64) -> OrderAnswer
 // One order: refused with 6 where it cannot be read, else run as the open or the close that it is.
 fn run_order(rows: &mut [u16; 1408], bytes: Bytes) -> OrderAnswer
     requires { legal rows.old ≡ true }
-    ensures* { λ r. ⌜ OrderRan (order_of bytes) rows.old rows.new (answer_in r) ⌝ }
+    ensures { OrderRan (order_of bytes) rows.old rows.new (answer_in result) }
 {
     let order = orders::read(bytes);
     match order {
@@ -75,7 +75,7 @@ fn run_order(rows: &mut [u16; 1408], bytes: Bytes) -> OrderAnswer
 
 // 0 or the refusal.
 fn result_of(answer: OrderAnswer) -> u8
-    ensures* { λ r. ⌜ r ≡ result (answer_in answer) ⌝ }
+    ensures { result ≡ result_field (answer_in answer) }
 {
     match answer {
         OrderAnswer::Booked(_) => 0,
@@ -86,7 +86,7 @@ fn result_of(answer: OrderAnswer) -> u8
 
 // 0 unless a line was opened.
 fn start_of(answer: OrderAnswer) -> Start
-    ensures* { λ r. ⌜ r.0 ≡ start (answer_in answer) ⌝ }
+    ensures { result.0 ≡ start (answer_in answer) }
 {
     match answer {
         OrderAnswer::Booked(start) => start,
@@ -97,7 +97,7 @@ fn start_of(answer: OrderAnswer) -> Start
 
 // Result 4 bits, start 12 bits, in one word.
 fn answer_word(answer: OrderAnswer) -> u64
-    ensures* { λ r. ⌜ r ≡ answer_word (answer_in answer) ⌝ }
+    ensures { result ≡ answer_word (answer_in answer) }
 {
     let result = result_of(answer) as u64;
     let start = start_of(answer).0 as u64;
@@ -107,7 +107,7 @@ fn answer_word(answer: OrderAnswer) -> u64
 // Writes an answer's two bytes, the first one highest.
 fn write_answer(answers: &mut [u8], at: usize, answer: OrderAnswer)
     requires { at + 1 < length answers.old }
-    ensures* { λ _. ⌜ answers.new ≡ set (set answers.old at (high_byte (answer_in answer))) (at + 1) (low_byte (answer_in answer)) ⌝ }
+    ensures { answers.new ≡ set (set answers.old at (high_byte (answer_in answer))) (at + 1) (low_byte (answer_in answer)) }
 {
     let word = answer_word(answer);
     answers[at] = (word / 256 % 256) as u8;
@@ -116,7 +116,7 @@ fn write_answer(answers: &mut [u8], at: usize, answer: OrderAnswer)
 
 // Whether an order was carried out, this one or one before it.
 fn carried_so_far(answer: OrderAnswer, earlier: bool) -> bool
-    ensures* { λ r. ⌜ r ≡ (carried (answer_in answer) || earlier) ⌝ }
+    ensures { result ≡ (carried (answer_in answer) || earlier) }
 {
     match answer {
         OrderAnswer::Booked(_) => true,
@@ -128,7 +128,7 @@ fn carried_so_far(answer: OrderAnswer, earlier: bool) -> bool
 // The orders in turn, each on the rows that the one before it left. Answers whether any was carried out.
 fn run_orders(rows: &mut [u16; 1408], orders: &[u8], answers: &mut [u8], count: usize) -> bool
     requires { Runnable rows.old orders.now answers.old count }
-    ensures* { λ r. ⌜ OrdersRan (orders_of orders.now) rows.old rows.new answers.old answers.new r ⌝ }
+    ensures { OrdersRan (orders_of orders.now) rows.old rows.new answers.old answers.new result }
 {
     let mut any = false;
     let mut k = 0;
@@ -144,7 +144,7 @@ fn run_orders(rows: &mut [u16; 1408], orders: &[u8], answers: &mut [u8], count: 
 
 // The length is not a multiple of 3, or above 65,535.
 fn length_refused(length: usize) -> bool
-    ensures* { λ r. ⌜ r ≡ length_refused length ⌝ }
+    ensures { result ≡ length_refused length }
 {
     if length % 3 != 0 {
         return true;
@@ -154,7 +154,7 @@ fn length_refused(length: usize) -> bool
 
 // The list's own checks, on its length and that of the lent bytes: 7, then 8.
 fn check_lengths(length: usize, room: usize) -> ListAnswer
-    ensures* { λ r. ⌜ refusal_in r ≡ list_refusal length room ⌝ }
+    ensures { refusal_in result ≡ list_refusal length room }
 {
     let unfit = length_refused(length);
     let short = room < 2 * (length / 3);
@@ -170,7 +170,7 @@ fn check_lengths(length: usize, room: usize) -> ListAnswer
 // Runs a list that passes its checks on a record that is no tree: on the empty plan, which takes the record's place where an order is carried out.
 fn run_in_empty(rows: &mut [u16; 1408], orders: &[u8], answers: &mut [u8])
     requires { (legal rows.old ≡ false) × (list_refusal (length orders.now) (length answers.old) ≡ none) }
-    ensures* { λ _. ⌜ CheckedRan (plan_of rows.old) orders.now answers.old (plan_of rows.new) answers.new ⌝ }
+    ensures { CheckedRan (plan_of rows.old) orders.now answers.old (plan_of rows.new) answers.new }
 {
     let mut fresh = [0; 1408];
     let any = run_orders(&mut fresh, orders, answers, orders.len() / 3);
@@ -183,7 +183,7 @@ fn run_in_empty(rows: &mut [u16; 1408], orders: &[u8], answers: &mut [u8])
 // Runs a list that passes its checks: in place where the record is a tree.
 fn run_checked(rows: &mut [u16; 1408], orders: &[u8], answers: &mut [u8])
     requires { list_refusal (length orders.now) (length answers.old) ≡ none }
-    ensures* { λ _. ⌜ CheckedRan (plan_of rows.old) orders.now answers.old (plan_of rows.new) answers.new ⌝ }
+    ensures { CheckedRan (plan_of rows.old) orders.now answers.old (plan_of rows.new) answers.new }
 {
     paths::whole(rows);
     if paths::legal(rows) {
@@ -198,7 +198,7 @@ fn run_checked(rows: &mut [u16; 1408], orders: &[u8], answers: &mut [u8])
 // Else each order has its two bytes written, whether it is refused or not, and the lent bytes beyond are as found.
 // The record is as found where no order was carried out.
 pub fn run_list_rows(rows: &mut [u16; 1408], orders: &[u8], answers: &mut [u8]) -> ListAnswer
-    ensures* { λ r. ⌜ ListRan (plan_of rows.old) orders.now answers.old (refusal_in r) (plan_of rows.new) answers.new ⌝ }
+    ensures { ListRan (plan_of rows.old) orders.now answers.old (refusal_in result) (plan_of rows.new) answers.new }
 {
     let answer = check_lengths(orders.len(), answers.len());
     if let ListAnswer::Done = answer {
@@ -209,7 +209,7 @@ pub fn run_list_rows(rows: &mut [u16; 1408], orders: &[u8], answers: &mut [u8]) 
 
 // The same with a plan by value.
 pub fn run_list(plan: Plan, orders: &[u8], answers: &mut [u8]) -> ListResult
-    ensures* { λ r. ⌜ ListRan plan orders.now answers.old (refusal_in r.answer) r.plan answers.new ⌝ }
+    ensures { ListRan plan orders.now answers.old (refusal_in result.answer) result.plan answers.new }
 {
     let mut next = plan;
     let answer = run_list_rows(&mut next.rows, orders, answers);

@@ -1,0 +1,18 @@
+-- `lists::run_checked` meets its contract: the record is a tree, or it is none and the list runs on the empty plan.
+-- Assumes nothing.
+use mathlib.Core.Path.{sym, ◌∙◌}
+use Rattle.lists.proofs.WholeList.{list_runnable, ran_in_place}
+use borrow.Author.Rules.{rules}
+use Rattle.lists.proofs.run_checked.Goals as goal
+
+pub run_orders-requires : goal.run_orders-requires
+run_orders-requires c = list_runnable _ _ _ (sym c.legal.ensures ∙ c.if-legal.true) (search rules)
+
+pub returns-then-legal : goal.returns-then-legal
+returns-then-legal c = ran_in_place _ _ _ _ _ (sym c.legal.ensures ∙ c.if-legal.true) c.whole.ensures c.whole-then-legal.ensures _ c.run_orders.ensures
+
+pub run_in_empty-requires : goal.run_in_empty-requires
+run_in_empty-requires c = (sym c.legal.ensures ∙ c.if-legal.false, search rules)
+
+pub returns : goal.returns
+returns c = c.run_in_empty.ensures
