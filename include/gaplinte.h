@@ -19,7 +19,7 @@
  * Pointers. None is null, also where a list or a buffer has no bytes. Records and buffers lent to one call do not
  * overlap.
  *
- * Link with libgaplinte.a, which `rt staticlib gaplinte` writes to target/staticlib. */
+ * Link with libgaplinte.a, which `bash bindings/build` writes to target/staticlib. */
 #ifndef GAPLINTE_H
 #define GAPLINTE_H
 

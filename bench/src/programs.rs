@@ -40,7 +40,7 @@ impl Program {
 pub fn programs(folder: &Path, list: &[u8]) -> [Program; 2] {
     let input = folder.join("orders");
     fs::write(&input, list).expect("the list can be written");
-    let book = Path::new(env!("CARGO_MANIFEST_DIR")).join("../target/bin/book");
+    let book = Path::new(env!("CARGO_MANIFEST_DIR")).join("../crates/book/out/book");
     let bench = std::env::current_exe().expect("this program has a name");
     [
         Program::new(vec![book], &input, "library"),

@@ -19,7 +19,7 @@ sheet 16. Different plans may be used in different threads; while one thread cha
 The shared library is the file that the environment variable GAPLINTE_LIBRARY names, or else
 target/staticlib/libgaplinte.so of the repository. In the repository it is made by
 
-    rt staticlib gaplinte
+    bash bindings/build
     cd target/staticlib
     cc -shared -o libgaplinte.so -Wl,--whole-archive libgaplinte.a -Wl,--no-whole-archive
 """

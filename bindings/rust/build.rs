@@ -1,4 +1,4 @@
-//! Links the static library that `rt staticlib gaplinte` writes: from the folder that `GAPLINTE_LIBRARY_DIR` names, or
+//! Links the static library that `bash bindings/build` writes: from the folder that `GAPLINTE_LIBRARY_DIR` names, or
 //! else from `target/staticlib` of the repository.
 
 use std::env;
@@ -20,7 +20,7 @@ fn main() {
         println!("cargo::rustc-link-lib=static=gaplinte");
     } else {
         println!(
-            "cargo::error=there is no {}: run `rt staticlib gaplinte` in the repository, or set {FOLDER} to the full \
+            "cargo::error=there is no {}: run `bash bindings/build` in the repository, or set {FOLDER} to the full \
              path of the folder that has {ARCHIVE}",
             archive.display()
         );
