@@ -9,8 +9,7 @@ use crate::answers;
 use plan::ask::{OwnerAnswer, TurnsAnswer};
 
 // The owner of a round: its line, or 64 plus the rest where the round is idle. It is never refused.
-#[unsafe(no_mangle)]
-pub extern "C" fn gaplinte_owner(rows: &[u16; 1408], round: u64) -> i64
+pub fn gaplinte_owner(rows: &[u16; 1408], round: u64) -> i64
     ensures { result ≡ answer_number (owner_outcome round rows.now) }
 {
     let answer = plan::ask::owner_rows(rows, round);
@@ -21,8 +20,7 @@ pub extern "C" fn gaplinte_owner(rows: &[u16; 1408], round: u64) -> i64
 }
 
 // Turns: how many rounds a line owns among so many that begin with `first`.
-#[unsafe(no_mangle)]
-pub extern "C" fn gaplinte_turns(rows: &[u16; 1408], line: u64, first: u64, rounds: u32) -> i64
+pub fn gaplinte_turns(rows: &[u16; 1408], line: u64, first: u64, rounds: u32) -> i64
     ensures { result ≡ answer_number (turns_outcome line first rounds (tree_of_rows rows.now)) }
 {
     let answer = plan::ask::turns_rows(rows, line, first, rounds);
@@ -33,8 +31,7 @@ pub extern "C" fn gaplinte_turns(rows: &[u16; 1408], line: u64, first: u64, roun
 }
 
 // Whether a record is a tree: 1, or 0 where every other call treats it as the empty plan. It is never refused.
-#[unsafe(no_mangle)]
-pub extern "C" fn gaplinte_is_tree(rows: &[u16; 1408]) -> i64
+pub fn gaplinte_is_tree(rows: &[u16; 1408]) -> i64
     ensures { result ≡ answer_number (tree_outcome rows.now) }
 {
     if paths::legal(rows) {

@@ -6,8 +6,7 @@ use crate::answers;
 use lines::{CloseAnswer, OpenAnswer};
 
 // Opens a line, and answers its start. A period of any size is checked whole, so that none is cut to 16 bits.
-#[unsafe(no_mangle)]
-pub extern "C" fn gaplinte_open(rows: &mut [u16; 1408], line: u64, period: u64) -> i64
+pub fn gaplinte_open(rows: &mut [u16; 1408], line: u64, period: u64) -> i64
     ensures { ChangeServed (open_line line period) rows.old rows.new result }
 {
     let answer = plan::change::open_rows(rows, line, tree::period_asked(period));
@@ -18,8 +17,7 @@ pub extern "C" fn gaplinte_open(rows: &mut [u16; 1408], line: u64, period: u64) 
 }
 
 // Closes a line.
-#[unsafe(no_mangle)]
-pub extern "C" fn gaplinte_close(rows: &mut [u16; 1408], line: u64) -> i64
+pub fn gaplinte_close(rows: &mut [u16; 1408], line: u64) -> i64
     ensures { ChangeServed (close_line line) rows.old rows.new result }
 {
     let answer = plan::change::close_rows(rows, line);

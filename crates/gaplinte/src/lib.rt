@@ -1,6 +1,6 @@
-// The library for C, Rust and Python: the calls on records that the caller lends, each in its place. A plan record is an
-// array of 1,408 numbers. The answer of a call is one number: its value, or minus the number with which it is refused,
-// which is one of document 01's. A refused call leaves everything that it is lent as found.
+// The calls of the library for C, Rust and Python, which gaplinte_c exports: on records that the caller lends, each in its
+// place. A plan record is an array of 1,408 numbers. The answer of a call is one number: its value, or minus the number
+// with which it is refused, which is one of document 01's. A refused call leaves everything that it is lent as found.
 #![tactic(auto)]
 
 mod answers;

@@ -5,12 +5,7 @@ use crate::answers;
 use lists::ListAnswer;
 
 // Runs a list of orders on the record that is lent, and writes each order's answer.
-#[unsafe(no_mangle)]
-pub extern "C" fn gaplinte_run_list(
-    rows: &mut [u16; 1408],
-    orders: &[u8],
-    answers: &mut [u8],
-) -> i64
+pub fn gaplinte_run_list(rows: &mut [u16; 1408], orders: &[u8], answers: &mut [u8]) -> i64
     ensures { ListServed rows.old orders.now answers.old rows.new answers.new result }
 {
     let answer = lists::run_list_rows(rows, orders, answers);

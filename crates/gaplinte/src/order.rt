@@ -5,8 +5,7 @@ use crate::answers;
 use orders::{Bytes, Packed, Reading};
 
 // Packs an order. A period of any size is checked whole.
-#[unsafe(no_mangle)]
-pub extern "C" fn gaplinte_pack(kind: u64, line: u64, period: u64, order: &mut [u8; 3]) -> i64
+pub fn gaplinte_pack(kind: u64, line: u64, period: u64, order: &mut [u8; 3]) -> i64
     ensures { PackServed kind line period order.old order.new result }
 {
     let packed = orders::pack(kind, line, tree::period_asked(period));
@@ -20,8 +19,7 @@ pub extern "C" fn gaplinte_pack(kind: u64, line: u64, period: u64, order: &mut [
 }
 
 // Reads an order: kind, line and period are written, or nothing where it is refused.
-#[unsafe(no_mangle)]
-pub extern "C" fn gaplinte_read(order: &[u8; 3], call: &mut [u16; 3]) -> i64
+pub fn gaplinte_read(order: &[u8; 3], call: &mut [u16; 3]) -> i64
     ensures { ReadServed order.now call.old call.new result }
 {
     let reading = orders::read(Bytes(order[0], order[1], order[2]));

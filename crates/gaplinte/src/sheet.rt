@@ -21,13 +21,7 @@ fn sheet_numbers(sheet: Sheet) -> [u16; 65]
 }
 
 // The sheet of so many rounds that begin with `first`: 65 numbers are written. It is never refused.
-#[unsafe(no_mangle)]
-pub extern "C" fn gaplinte_sheet(
-    rows: &[u16; 1408],
-    first: u64,
-    rounds: u16,
-    sheet: &mut [u16; 65],
-) -> i64
+pub fn gaplinte_sheet(rows: &[u16; 1408], first: u64, rounds: u16, sheet: &mut [u16; 65]) -> i64
     ensures { SheetServed rows.now first rounds sheet.new result }
 {
     *sheet = sheet_numbers(plan::sheet::sheet_rows(rows, first, rounds));

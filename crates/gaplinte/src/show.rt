@@ -24,8 +24,7 @@ fn shown_numbers(period: Period, start: Start, path: [Row; 11]) -> [u16; 24]
 }
 
 // Shows a line: 24 numbers are written, or none where the call is refused.
-#[unsafe(no_mangle)]
-pub extern "C" fn gaplinte_show(rows: &[u16; 1408], line: u64, shown: &mut [u16; 24]) -> i64
+pub fn gaplinte_show(rows: &[u16; 1408], line: u64, shown: &mut [u16; 24]) -> i64
     ensures { ShowServed rows.now line shown.old shown.new result }
 {
     let showing = plan::ask::show_rows(rows, line);

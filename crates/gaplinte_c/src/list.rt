@@ -1,0 +1,14 @@
+// The call that runs a list of orders.
+ghost use Rattle.gaplinte.specs.Served.{ListServed};
+
+// Runs a list of orders on the record that is lent, and writes each order's answer.
+#[unsafe(no_mangle)]
+pub extern "C" fn gaplinte_run_list(
+    rows: &mut [u16; 1408],
+    orders: &[u8],
+    answers: &mut [u8],
+) -> i64
+    ensures { ListServed rows.old orders.now answers.old rows.new answers.new result }
+{
+    gaplinte::list::gaplinte_run_list(rows, orders, answers)
+}
