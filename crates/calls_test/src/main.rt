@@ -5,10 +5,10 @@
 ghost use Rattle.tree.specs.Record.{tree_of};
 ghost use Rattle.plan.specs.Walker.{WalkedOn};
 
-use libc::STDIN_FILENO;
 use lines::{CloseAnswer, OpenAnswer};
 use plan::ask::{ShowAnswer, TurnsAnswer};
 use plan::walker::{WalkAnswer, Walked, WalkerPlace};
+use std::io::Read;
 use test_script::{
     decimal, first_number, idle, run_owner, second_number, text, third_number, write_number,
 };
@@ -26,181 +26,181 @@ fn period_of(asked: u64) -> Period {
     Period(65535)
 }
 
-fn print_open(line: u64, period: u64, answer: OpenAnswer) {
-    text(b"open ");
-    decimal(line);
-    text(b" ");
-    decimal(period);
+fn print_open(rt: &impl Print, line: u64, period: u64, answer: OpenAnswer) {
+    text(rt, b"open ");
+    decimal(rt, line);
+    text(rt, b" ");
+    decimal(rt, period);
     match answer {
         OpenAnswer::Booked(start) => {
-            text(b" 0 ");
-            decimal(start.0 as u64);
-            text(b"\n");
+            text(rt, b" 0 ");
+            decimal(rt, start.0 as u64);
+            text(rt, b"\n");
         }
         OpenAnswer::Refused(number) => {
-            text(b" ");
-            decimal(number as u64);
-            text(b" -\n");
+            text(rt, b" ");
+            decimal(rt, number as u64);
+            text(rt, b" -\n");
         }
     }
 }
 
-fn print_close(line: u64, answer: CloseAnswer) {
-    text(b"close ");
-    decimal(line);
-    text(b" ");
+fn print_close(rt: &impl Print, line: u64, answer: CloseAnswer) {
+    text(rt, b"close ");
+    decimal(rt, line);
+    text(rt, b" ");
     match answer {
-        CloseAnswer::Done => decimal(0),
-        CloseAnswer::Refused(number) => decimal(number as u64),
+        CloseAnswer::Done => decimal(rt, 0),
+        CloseAnswer::Refused(number) => decimal(rt, number as u64),
     }
-    text(b"\n");
+    text(rt, b"\n");
 }
 
-fn run_open(current: Plan, line: u64, period: u64) -> Plan {
+fn run_open(rt: &impl Print, current: Plan, line: u64, period: u64) -> Plan {
     let opening = plan::change::open(current, line, period_of(period));
     let answer = opening.answer;
-    print_open(line, period, answer);
+    print_open(rt, line, period, answer);
     opening.plan
 }
 
-fn run_close(current: Plan, line: u64) -> Plan {
+fn run_close(rt: &impl Print, current: Plan, line: u64) -> Plan {
     let closing = plan::change::close(current, line);
     let answer = closing.answer;
-    print_close(line, answer);
+    print_close(rt, line, answer);
     closing.plan
 }
 
-fn print_figure(figure: u16) {
-    text(b" ");
-    decimal(figure as u64);
+fn print_figure(rt: &impl Print, figure: u16) {
+    text(rt, b" ");
+    decimal(rt, figure as u64);
 }
 
-fn print_row(row: Row) {
-    print_figure(row.weight);
-    print_figure(row.edge);
+fn print_row(rt: &impl Print, row: Row) {
+    print_figure(rt, row.weight);
+    print_figure(rt, row.edge);
 }
 
-fn print_rows(rows: [Row; 11]) {
+fn print_rows(rt: &impl Print, rows: [Row; 11]) {
     for k in 0..11 {
-        print_row(rows[k]);
+        print_row(rt, rows[k]);
     }
 }
 
-fn print_shown(answer: ShowAnswer, rows: [Row; 11]) {
+fn print_shown(rt: &impl Print, answer: ShowAnswer, rows: [Row; 11]) {
     match answer {
         ShowAnswer::Times(period, start) => {
-            text(b"0 ");
-            decimal(period.0 as u64);
-            text(b" ");
-            decimal(start.0 as u64);
-            print_rows(rows);
+            text(rt, b"0 ");
+            decimal(rt, period.0 as u64);
+            text(rt, b" ");
+            decimal(rt, start.0 as u64);
+            print_rows(rt, rows);
         }
-        ShowAnswer::Refused(number) => decimal(number as u64),
+        ShowAnswer::Refused(number) => decimal(rt, number as u64),
     }
 }
 
-fn run_show(current: Plan, line: u64) {
-    text(b"show ");
-    decimal(line);
-    text(b" ");
+fn run_show(rt: &impl Print, current: Plan, line: u64) {
+    text(rt, b"show ");
+    decimal(rt, line);
+    text(rt, b" ");
     let showing = plan::ask::show(current, line);
     let answer = showing.answer;
     let rows = showing.rows;
-    print_shown(answer, rows);
-    text(b"\n");
+    print_shown(rt, answer, rows);
+    text(rt, b"\n");
 }
 
-fn run_turns(current: Plan, line: u64, first: u64, rounds: u32) {
-    text(b"turns ");
-    decimal(line);
-    text(b" ");
-    decimal(first);
-    text(b" ");
-    decimal(rounds as u64);
+fn run_turns(rt: &impl Print, current: Plan, line: u64, first: u64, rounds: u32) {
+    text(rt, b"turns ");
+    decimal(rt, line);
+    text(rt, b" ");
+    decimal(rt, first);
+    text(rt, b" ");
+    decimal(rt, rounds as u64);
     match plan::ask::turns(current, line, first, rounds) {
         TurnsAnswer::Count(count) => {
-            text(b" 0 ");
-            decimal(count);
-            text(b"\n");
+            text(rt, b" 0 ");
+            decimal(rt, count);
+            text(rt, b"\n");
         }
         TurnsAnswer::Refused(number) => {
-            text(b" ");
-            decimal(number as u64);
-            text(b" -\n");
+            text(rt, b" ");
+            decimal(rt, number as u64);
+            text(rt, b" -\n");
         }
     }
 }
 
-fn print_turns(turns: [u16; 64]) {
+fn print_turns(rt: &impl Print, turns: [u16; 64]) {
     for line in 0..64 {
-        print_figure(turns[line]);
+        print_figure(rt, turns[line]);
     }
 }
 
 // The turns of the lines 0 to 63, and the idle rounds.
-fn run_sheet(current: Plan, first: u64, rounds: u16) {
-    text(b"sheet ");
-    decimal(first);
-    print_figure(rounds);
+fn run_sheet(rt: &impl Print, current: Plan, first: u64, rounds: u16) {
+    text(rt, b"sheet ");
+    decimal(rt, first);
+    print_figure(rt, rounds);
     let sheet = plan::sheet::sheet(current, first, rounds);
     let turns = sheet.turns;
-    print_turns(turns);
-    print_figure(sheet.idle);
-    text(b"\n");
+    print_turns(rt, turns);
+    print_figure(rt, sheet.idle);
+    text(rt, b"\n");
 }
 
 // The start, the number of nodes added, and whether a node is split.
-fn print_trial(trial: Trial) {
-    text(b" 0 ");
-    decimal(trial.start.0 as u64);
-    text(b" ");
-    decimal(trial.added as u64);
+fn print_trial(rt: &impl Print, trial: Trial) {
+    text(rt, b" 0 ");
+    decimal(rt, trial.start.0 as u64);
+    text(rt, b" ");
+    decimal(rt, trial.added as u64);
     if trial.split {
-        text(b" split\n");
+        text(rt, b" split\n");
     } else {
-        text(b" whole\n");
+        text(rt, b" whole\n");
     }
 }
 
-fn run_trial(current: Plan, line: u64, period: u64) {
-    text(b"trial ");
-    decimal(line);
-    text(b" ");
-    decimal(period);
+fn run_trial(rt: &impl Print, current: Plan, line: u64, period: u64) {
+    text(rt, b"trial ");
+    decimal(rt, line);
+    text(rt, b" ");
+    decimal(rt, period);
     match plan::trial::trial(current, line, period_of(period)) {
-        TrialAnswer::Fits(trial) => print_trial(trial),
+        TrialAnswer::Fits(trial) => print_trial(rt, trial),
         TrialAnswer::Refused(number) => {
-            text(b" ");
-            decimal(number as u64);
-            text(b" - - -\n");
+            text(rt, b" ");
+            decimal(rt, number as u64);
+            text(rt, b" - - -\n");
         }
     }
 }
 
-fn print_place(place: WalkerPlace) {
-    text(b" ");
-    decimal(place.next);
-    text(b" ");
-    decimal(place.owned);
+fn print_place(rt: &impl Print, place: WalkerPlace) {
+    text(rt, b" ");
+    decimal(rt, place.next);
+    text(rt, b" ");
+    decimal(rt, place.owned);
 }
 
 // The form of the walker, the place before the call, the answer, and the place after it.
-fn print_walk(form: &[u8], before: WalkerPlace, walked: Walked) {
+fn print_walk(rt: &impl Print, form: &[u8], before: WalkerPlace, walked: Walked) {
     let answer = walked.answer;
     let after = walked.place;
-    text(form);
-    print_place(before);
-    text(b" ");
+    text(rt, form);
+    print_place(rt, before);
+    text(rt, b" ");
     match answer {
-        WalkAnswer::Line(line) => decimal(line),
-        WalkAnswer::Idle(rest) => idle(rest),
+        WalkAnswer::Line(line) => decimal(rt, line),
+        WalkAnswer::Idle(rest) => idle(rt, rest),
         WalkAnswer::Refused(number) => {
-            text(b"refused ");
-            decimal(number as u64);
+            text(rt, b"refused ");
+            decimal(rt, number as u64);
         }
     }
-    print_place(after);
-    text(b"\n");
+    print_place(rt, after);
+    text(rt, b"\n");
 }
 
 // The walker on a place that is lent.
@@ -216,21 +216,22 @@ fn lend(current: Plan, place: WalkerPlace) -> Walked
 }
 
 // The walker by value, then on a lent place.
-fn run_walk(current: Plan, place: WalkerPlace) {
-    print_walk(b"walk", place, plan::walker::walk(current, place));
-    print_walk(b"lent", place, lend(current, place));
+fn run_walk(rt: &impl Print, current: Plan, place: WalkerPlace) {
+    print_walk(rt, b"walk", place, plan::walker::walk(current, place));
+    print_walk(rt, b"lent", place, lend(current, place));
 }
 
 // A step that asks the plan.
-fn run_question(current: Plan, kind: u8, first: u64, second: u64, third: u64) {
+fn run_question(rt: &impl Print, current: Plan, kind: u8, first: u64, second: u64, third: u64) {
     match kind {
-        4 => run_owner(current, first),
-        5 => run_show(current, first),
-        6 => run_turns(current, first, second, (third % 4294967296) as u32),
-        8 => run_trial(current, first, second),
-        9 => run_sheet(current, first, (second % 65536) as u16),
+        4 => run_owner(rt, current, first),
+        5 => run_show(rt, current, first),
+        6 => run_turns(rt, current, first, second, (third % 4294967296) as u32),
+        8 => run_trial(rt, current, first, second),
+        9 => run_sheet(rt, current, first, (second % 65536) as u16),
         _ => {
             run_walk(
+                rt,
                 current,
                 WalkerPlace {
                     next: first,
@@ -242,21 +243,21 @@ fn run_question(current: Plan, kind: u8, first: u64, second: u64, third: u64) {
 }
 
 // One step: a call that changes the plan, the empty plan again, a number written over, or a question.
-fn run_step(current: Plan, step: &[u8; 25]) -> Plan {
+fn run_step(rt: &impl Print, current: Plan, step: &[u8; 25]) -> Plan {
     let kind = step[0];
     let first = first_number(step);
     let second = second_number(step);
     let third = third_number(step);
     match kind {
-        0 => run_open(current, first, second),
-        1 => run_close(current, first),
+        0 => run_open(rt, current, first, second),
+        1 => run_close(rt, current, first),
         2 => {
-            text(b"plan\n");
+            text(rt, b"plan\n");
             plan::change::empty()
         }
-        3 => write_number(current, first, second),
+        3 => write_number(rt, current, first, second),
         _ => {
-            run_question(current, kind, first, second, third);
+            run_question(rt, current, kind, first, second, third);
             current
         }
     }
@@ -269,9 +270,9 @@ struct Next {
     plan: Plan,
 }
 
-fn run_next(current: Plan) -> Next {
+fn run_next(rt: &impl Print, script: &mut impl Read, current: Plan) -> Next {
     let mut step = [0u8; 25];
-    if io::read_full(STDIN_FILENO, &mut step) < 25 {
+    if script.read_exact(&mut step).is_err() {
         return Next {
             more: false,
             plan: current,
@@ -279,14 +280,15 @@ fn run_next(current: Plan) -> Next {
     }
     Next {
         more: true,
-        plan: run_step(current, &step),
+        plan: run_step(rt, current, &step),
     }
 }
 
-fn main() {
+fn main(rt: HostRuntime) {
+    let mut script = rt.stdin();
     let mut current = plan::change::empty();
     for _ in 0..MOST_STEPS {
-        let next = run_next(current);
+        let next = run_next(&rt, &mut script, current);
         if !next.more {
             return;
         }

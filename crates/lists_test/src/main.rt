@@ -2,11 +2,10 @@
 // lists are run on one plan after another, and each answer is printed. second/src/list_script.rs says the formats.
 #![tactic(auto)]
 
-ghost use Rattle.std.specs.Prelude.{◌+◌, ◌*◌, ◌<◌, ◌≤◌};
-ghost use lib.ListN.{length};
+ghost use Rattle.std.specs.Prelude.{◌+◌, ◌*◌, ◌<◌, ◌≤◌, length};
 
-use libc::STDIN_FILENO;
 use lists::ListAnswer;
+use std::io::Read;
 use test_script::{decimal, first_number, run_owner, second_number, text, write_number};
 use tree::Plan;
 
@@ -22,12 +21,12 @@ const MOST_ROOM: usize = 70000;
 // Every lent byte before the call: EE.
 const UNTOUCHED: u8 = 238;
 
-fn print_number(current: Plan, place: u64) {
-    text(b"number ");
-    decimal(place);
-    text(b" ");
-    decimal(number_at(current, place));
-    text(b"\n");
+fn print_number(rt: &impl Print, current: Plan, place: u64) {
+    text(rt, b"number ");
+    decimal(rt, place);
+    text(rt, b" ");
+    decimal(rt, number_at(current, place));
+    text(rt, b"\n");
 }
 
 fn number_at(current: Plan, place: u64) -> u64 {
@@ -55,19 +54,19 @@ fn put_byte(line: &mut [u8; 80], at: usize, byte: u8)
     line[at + 1] = digit(byte % 16);
 }
 
-fn print_part(bytes: &[u8], count: usize) {
+fn print_part(rt: &impl Print, bytes: &[u8], count: usize) {
     if count <= bytes.len() {
-        text(&bytes[..count]);
+        text(rt, &bytes[..count]);
     }
 }
 
 // The first bytes of a line. The array is lent as a slice here, where its length is known from its type.
-fn print_start(line: &[u8; 80], count: usize) {
-    print_part(line, count);
+fn print_start(rt: &impl Print, line: &[u8; 80], count: usize) {
+    print_part(rt, line, count);
 }
 
 // Some answers, at most 16, on one line.
-fn print_line(answers: &[u8], from: usize, orders: usize)
+fn print_line(rt: &impl Print, answers: &[u8], from: usize, orders: usize)
     requires orders_nonzero { 0 < orders }
     requires orders_bound { orders ≤ 16 }
     requires orders_in_bounds { 2 * (from + orders) ≤ length answers.now }
@@ -78,7 +77,7 @@ fn print_line(answers: &[u8], from: usize, orders: usize)
         put_byte(&mut line, 5 * k + 2, answers[2 * (from + k) + 1]);
     }
     line[5 * orders - 1] = b'\n';
-    print_start(&line, 5 * orders);
+    print_start(rt, &line, 5 * orders);
 }
 
 fn least(a: usize, b: usize) -> usize
@@ -89,16 +88,16 @@ fn least(a: usize, b: usize) -> usize
 }
 
 // The answers of so many orders, 16 to a line.
-fn print_answers(lent: &[u8], orders: usize)
+fn print_answers(rt: &impl Print, lent: &[u8], orders: usize)
     requires { 2 * orders ≤ length lent.now }
 {
     let mut done = 0;
     while done + 16 < orders {
-        print_line(lent, done, 16);
+        print_line(rt, lent, done, 16);
         done += 16;
     }
     if done < orders {
-        print_line(lent, done, orders - done);
+        print_line(rt, lent, done, orders - done);
     }
 }
 
@@ -120,7 +119,7 @@ fn untouched(lent: &[u8], from: usize) -> usize
 }
 
 // The first bytes from a place on, at most 6, to the end of the line.
-fn print_first(lent: &[u8], from: usize)
+fn print_first(rt: &impl Print, lent: &[u8], from: usize)
     requires { from ≤ length lent.now }
 {
     let count = least(6, lent.len() - from);
@@ -129,63 +128,63 @@ fn print_first(lent: &[u8], from: usize)
         put_byte(&mut line, 3 * k + 1, lent[from + k]);
     }
     line[3 * count] = b'\n';
-    print_start(&line, 3 * count + 1);
+    print_start(rt, &line, 3 * count + 1);
 }
 
-fn print_beyond(lent: &[u8], from: usize)
+fn print_beyond(rt: &impl Print, lent: &[u8], from: usize)
     requires { from ≤ length lent.now }
 {
-    text(b"beyond ");
-    decimal(untouched(lent, from) as u64);
-    print_first(lent, from);
+    text(rt, b"beyond ");
+    decimal(rt, untouched(lent, from) as u64);
+    print_first(rt, lent, from);
 }
 
 // The answers of so many orders, and what is beyond them. Fewer lent bytes than answers were refused by the call.
-fn print_lent(lent: &[u8], orders: usize) {
+fn print_lent(rt: &impl Print, lent: &[u8], orders: usize) {
     if orders <= lent.len() / 2 {
-        print_answers(lent, orders);
-        print_beyond(lent, 2 * orders);
+        print_answers(rt, lent, orders);
+        print_beyond(rt, lent, 2 * orders);
     }
 }
 
-fn print_result(length: usize, room: usize, res: u8) {
-    text(b"list ");
-    decimal(length as u64);
-    text(b" ");
-    decimal(room as u64);
-    text(b" ");
-    decimal(res as u64);
-    text(b"\n");
+fn print_result(rt: &impl Print, length: usize, room: usize, res: u8) {
+    text(rt, b"list ");
+    decimal(rt, length as u64);
+    text(rt, b" ");
+    decimal(rt, room as u64);
+    text(rt, b" ");
+    decimal(rt, res as u64);
+    text(rt, b"\n");
 }
 
-fn print_list(length: usize, lent: &[u8], answer: ListAnswer) {
+fn print_list(rt: &impl Print, length: usize, lent: &[u8], answer: ListAnswer) {
     match answer {
         ListAnswer::Done => {
-            print_result(length, lent.len(), 0);
-            print_lent(lent, length / 3);
+            print_result(rt, length, lent.len(), 0);
+            print_lent(rt, lent, length / 3);
         }
         ListAnswer::Refused(number) => {
-            print_result(length, lent.len(), number);
-            print_lent(lent, 0);
+            print_result(rt, length, lent.len(), number);
+            print_lent(rt, lent, 0);
         }
     }
 }
 
 // A list, with the bytes that are lent for its answers.
-fn run_list(current: Plan, list: &[u8], lent: &mut [u8]) -> Plan {
+fn run_list(rt: &impl Print, current: Plan, list: &[u8], lent: &mut [u8]) -> Plan {
     let after = lists::run_list(current, list, lent);
     let answer = after.answer;
-    print_list(list.len(), lent, answer);
+    print_list(rt, list.len(), lent, answer);
     after.plan
 }
 
 // A list of so many bytes, with so many lent.
-fn run_length(current: Plan, list: &[u8], length: usize, room: usize) -> Plan
-    requires length_len_bound { length ≤ lib.ListN.length list.now }
+fn run_length(rt: &impl Print, current: Plan, list: &[u8], length: usize, room: usize) -> Plan
+    requires length_len_bound { length ≤ length list.now }
     requires room_bound { room ≤ 70000 }
 {
     let mut lent = [UNTOUCHED; MOST_ROOM];
-    run_list(current, &list[..length], &mut lent[..room])
+    run_list(rt, current, &list[..length], &mut lent[..room])
 }
 
 // Bytes over and over, from the first ones.
@@ -198,14 +197,14 @@ fn repeat(list: &mut [u8], given: usize)
 }
 
 // Reads so many bytes and repeats them. Answers whether they were there.
-fn give(list: &mut [u8], given: usize) -> bool {
+fn give(script: &mut impl Read, list: &mut [u8], given: usize) -> bool {
     if given == 0 {
         return false;
     }
     if list.len() < given {
         return false;
     }
-    if io::read_full(STDIN_FILENO, &mut list[..given]) < given {
+    if script.read_exact(&mut list[..given]).is_err() {
         return false;
     }
     repeat(list, given);
@@ -220,19 +219,19 @@ struct Next {
 }
 
 // A step on the plan alone.
-fn run_step(current: Plan, kind: u8, first: u64, second: u64) -> Plan {
+fn run_step(rt: &impl Print, current: Plan, kind: u8, first: u64, second: u64) -> Plan {
     match kind {
         0 => {
-            text(b"plan\n");
+            text(rt, b"plan\n");
             plan::change::empty()
         }
-        1 => write_number(current, first, second),
+        1 => write_number(rt, current, first, second),
         2 => {
-            print_number(current, first);
+            print_number(rt, current, first);
             current
         }
         _ => {
-            run_owner(current, first);
+            run_owner(rt, current, first);
             current
         }
     }
@@ -249,9 +248,9 @@ fn within(asked: u64, most: usize) -> usize
     }
 }
 
-fn run_next(current: Plan, list: &mut [u8]) -> Next {
+fn run_next(rt: &impl Print, script: &mut impl Read, current: Plan, list: &mut [u8]) -> Next {
     let mut step = [0u8; 25];
-    if io::read_full(STDIN_FILENO, &mut step) < 25 {
+    if script.read_exact(&mut step).is_err() {
         return Next {
             more: false,
             plan: current,
@@ -262,12 +261,13 @@ fn run_next(current: Plan, list: &mut [u8]) -> Next {
     let second = second_number(&step);
     match kind {
         4 => Next {
-            more: give(list, within(first, list.len())),
+            more: give(script, list, within(first, list.len())),
             plan: current,
         },
         5 => Next {
             more: true,
             plan: run_length(
+                rt,
                 current,
                 list,
                 within(first, list.len()),
@@ -276,17 +276,18 @@ fn run_next(current: Plan, list: &mut [u8]) -> Next {
         },
         _ => Next {
             more: true,
-            plan: run_step(current, kind, first, second),
+            plan: run_step(rt, current, kind, first, second),
         },
     }
 }
 
-fn main() {
+fn main(rt: HostRuntime) {
+    let mut script = rt.stdin();
     let mut space = [0u8; LIST_BYTES];
     let list: &mut [u8] = &mut space;
     let mut current = plan::change::empty();
     for _ in 0..MOST_STEPS {
-        let next = run_next(current, list);
+        let next = run_next(&rt, &mut script, current, list);
         if !next.more {
             return;
         }

@@ -2,7 +2,6 @@
 // and every period is packed with kinds and lines at the borders and read back.
 #![tactic(auto)]
 
-use libc::STDOUT_FILENO;
 use orders::{Bytes, Packed, Reading};
 use tree::Period;
 
@@ -169,42 +168,40 @@ fn count_all_lines(kind: u64) -> Counts {
     counts
 }
 
-fn print(label: &[u8], count: u64) {
-    io::write_all(STDOUT_FILENO, label);
-    io::write_all(STDOUT_FILENO, b" ");
-    io::print_decimal(STDOUT_FILENO, count);
-    io::write_all(STDOUT_FILENO, b"\n");
+// That a line cannot be written is not reported: what is printed is compared.
+fn print(rt: &impl Print, label: &str, count: u64) {
+    let _ = println!(rt; "{label} {count}");
 }
 
-fn print_refused(counts: Counts) {
-    print(b"refused 1", counts.refused_1);
-    print(b"refused 2", counts.refused_2);
-    print(b"refused 6", counts.refused_6);
-    print(b"refused otherwise", counts.refused_otherwise);
+fn print_refused(rt: &impl Print, counts: Counts) {
+    print(rt, "refused 1", counts.refused_1);
+    print(rt, "refused 2", counts.refused_2);
+    print(rt, "refused 6", counts.refused_6);
+    print(rt, "refused otherwise", counts.refused_otherwise);
 }
 
-fn print_all_read() {
+fn print_all_read(rt: &impl Print) {
     let counts = count_all_read();
-    io::write_all(STDOUT_FILENO, b"reading\n");
-    print(b"open", counts.open);
-    print(b"close", counts.close);
-    print_refused(counts);
-    print(b"packed to the same bytes", counts.same);
-    print(b"digest", counts.digest);
+    let _ = println!(rt; "reading");
+    print(rt, "open", counts.open);
+    print(rt, "close", counts.close);
+    print_refused(rt, counts);
+    print(rt, "packed to the same bytes", counts.same);
+    print(rt, "digest", counts.digest);
 }
 
-fn print_all_packed(kind: u64) {
+fn print_all_packed(rt: &impl Print, kind: u64) {
     let counts = count_all_lines(kind);
-    print(b"packing kind", kind);
-    print(b"packed", counts.packed);
-    print_refused(counts);
-    print(b"read back", counts.same);
-    print(b"digest", counts.digest);
+    print(rt, "packing kind", kind);
+    print(rt, "packed", counts.packed);
+    print_refused(rt, counts);
+    print(rt, "read back", counts.same);
+    print(rt, "digest", counts.digest);
 }
 
-fn main() {
-    print_all_read();
+fn main(rt: HostRuntime) {
+    print_all_read(&rt);
     for i in 0..8 {
-        print_all_packed(KINDS[i]);
+        print_all_packed(&rt, KINDS[i]);
     }
 }

@@ -4,7 +4,6 @@
 
 ghost use Rattle.std.specs.Prelude.{◌+◌, ◌<◌, ◌≤◌};
 
-use libc::STDOUT_FILENO;
 use plan::ask::OwnerAnswer;
 use tree::Plan;
 
@@ -40,21 +39,22 @@ pub fn third_number(step: &[u8; 25]) -> u64 {
     number(step, 17)
 }
 
-pub fn text(words: &[u8]) {
-    io::write_all(STDOUT_FILENO, words);
+// That a text or a number cannot be written is not reported: what is printed is compared.
+pub fn text(rt: &impl Print, words: &[u8]) {
+    let _ = rt.write_all(words);
 }
 
-pub fn decimal(value: u64) {
-    io::print_decimal(STDOUT_FILENO, value);
+pub fn decimal(rt: &impl Print, value: u64) {
+    let _ = rt.print(value);
 }
 
 // A number of the record, written over.
-pub fn write_number(current: Plan, place: u64, number: u64) -> Plan {
-    text(b"write ");
-    decimal(place);
-    text(b" ");
-    decimal(number);
-    text(b"\n");
+pub fn write_number(rt: &impl Print, current: Plan, place: u64, number: u64) -> Plan {
+    text(rt, b"write ");
+    decimal(rt, place);
+    text(rt, b" ");
+    decimal(rt, number);
+    text(rt, b"\n");
     let mut damaged = current;
     if place < 1408 && number < 65536 {
         damaged.rows[place as usize] = number as u16;
@@ -63,18 +63,18 @@ pub fn write_number(current: Plan, place: u64, number: u64) -> Plan {
 }
 
 // That a round is idle, and its rest.
-pub fn idle(rest: u16) {
-    text(b"idle ");
-    decimal(rest as u64);
+pub fn idle(rt: &impl Print, rest: u16) {
+    text(rt, b"idle ");
+    decimal(rt, rest as u64);
 }
 
-pub fn run_owner(current: Plan, round: u64) {
-    text(b"owner ");
-    decimal(round);
-    text(b" ");
+pub fn run_owner(rt: &impl Print, current: Plan, round: u64) {
+    text(rt, b"owner ");
+    decimal(rt, round);
+    text(rt, b" ");
     match plan::ask::owner(current, round) {
-        OwnerAnswer::Line(line) => decimal(line),
-        OwnerAnswer::Idle(rest) => idle(rest),
+        OwnerAnswer::Line(line) => decimal(rt, line),
+        OwnerAnswer::Idle(rest) => idle(rt, rest),
     }
-    text(b"\n");
+    text(rt, b"\n");
 }
