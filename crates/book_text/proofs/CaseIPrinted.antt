@@ -5,7 +5,7 @@ use mathlib.Core.Path.{◌≡◌, refl}
 use mathlib.Core.List.{List, [], ◌∷◌, ◌++◌}
 use Rattle.tree.specs.Numbers.{divides, euclid, gcd}
 use Rattle.tree.specs.Search.{found, or_else, first, smallest, some_below, all_below}
-use Rattle.tree.specs.Tree.{nothing, present, product, sum_from, sum, path, is_open, path_of, period_of, start_of, at_digits, at, way_by_digits, way, step}
+use Rattle.tree.specs.Tree.{present, product, sum_from, sum, path, is_open, path_of, period_of, start_of, at_digits, at, way_by_digits, way, step}
 use Rattle.tree.specs.Opening.{divisor, free, free_class, candidate, before, better, best_below, under, best, chosen, put, one_edge, group, split, newcomer, booking, book_by_digits, class_at, book_into, opened, start_in, start_given}
 use Rattle.tree.specs.Closing.{prune, closed}
 use Rattle.tree.specs.Refusals.{first_refusal, line_above_63, period_out_of_range, no_room, earlier_checks, open_refusal, line_refusal}
