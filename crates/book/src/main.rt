@@ -3,7 +3,6 @@
 #![tactic(auto)]
 
 ghost use Rattle.std.specs.Prelude.{◌≡◌, ◌≤◌, length, take};
-ghost use Rattle.io.specs.Counts.{IsPrefixLen};
 ghost use Rattle.book_text.specs.BookText.{book_text};
 ghost use Rattle.book_text.specs.Writing.{longest_text};
 
@@ -23,7 +22,7 @@ struct Input {
 // Reads an input into the start of the buffer, until the buffer is full, the input ends or a read fails. A read that a
 // signal interrupts counts as one that failed.
 fn read_input(source: &mut impl Read, buffer: &mut [u8]) -> Input
-    ensures { IsPrefixLen result.length buffer.new }
+    ensures { result.length ≤ length buffer.new }
 {
     let mut length = 0;
     while length < buffer.len() {
@@ -61,7 +60,7 @@ fn text_buffer() -> [u8; LONGEST_TEXT]
 // Writes the whole text for an input, which is what main then prints.
 fn write_whole(input: &[u8], text: &mut [u8]) -> usize
     requires { longest_text ≤ length text.old }
-    ensures prefix_len { IsPrefixLen result text.new }
+    ensures prefix_len { result ≤ length text.new }
     ensures text_after { take result text.new ≡ book_text input.now }
 {
     book_text::write_text(input, text)

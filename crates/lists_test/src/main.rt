@@ -179,12 +179,12 @@ fn run_list(rt: &impl Print, current: Plan, list: &[u8], lent: &mut [u8]) -> Pla
 }
 
 // A list of so many bytes, with so many lent.
-fn run_length(rt: &impl Print, current: Plan, list: &[u8], length: usize, room: usize) -> Plan
-    requires length_len_bound { length ≤ length list.now }
+fn run_length(rt: &impl Print, current: Plan, list: &[u8], bytes: usize, room: usize) -> Plan
+    requires bytes_bound { bytes ≤ length list.now }
     requires room_bound { room ≤ 70000 }
 {
     let mut lent = [UNTOUCHED; MOST_ROOM];
-    run_list(rt, current, &list[..length], &mut lent[..room])
+    run_list(rt, current, &list[..bytes], &mut lent[..room])
 }
 
 // Bytes over and over, from the first ones.
