@@ -5,12 +5,16 @@ usage: python3 tools/respell.py    at the top of a checkout on which port.py has
 
 A name is the repository's own where a file of specs/ or a lemma file of proofs/ declares or binds it; names that a file imports from
 the kit keep their spelling. The files turned are those of specs/ and proofs/, the clauses and ghost imports of src/, the must-fail
-edits, and the names between backticks in comments, README.md, docs/ and the README of second/. Functions of src/, exported names, strings, inputs
-and outputs are left alone.
+edits, and the names between backticks in comments, README.md and docs/. Functions of src/, exported names, strings, inputs and outputs
+are left alone.
+
+Two names fell together in port.py: treeOf, the tree of a plan, and tree-of, the tree of a lent record. By the text of HEAD, which has
+both, the second becomes tree_of_rows here. What is named after treeOf, and recordOf, are in snake case too.
 """
 
 import glob
 import re
+import subprocess
 import sys
 
 TOKEN = re.compile(r"[A-Za-z0-9_'ℕ]+(?:-[A-Za-z0-9_'ℕ]+)+")
@@ -51,6 +55,32 @@ def code_of(line, mark):
     return (line, "") if at < 0 else (line[:at], line[at:])
 
 
+TREE_NAMES = re.compile(r"(?<![\w'.-])(treeOf|tree-of|tree_of)(?![\w'-])")
+
+
+def before(path):
+    """The text of HEAD."""
+    shown = subprocess.run(["git", "show", f"HEAD:{path}"], capture_output=True, check=False)
+    return shown.stdout.decode("utf-8")
+
+
+def set_apart(path):
+    """Gives the two trees that fell together different names again."""
+    text = read(path)
+    old, new = TREE_NAMES.findall(before(path)), TREE_NAMES.findall(text)
+    if new and len(set(old)) == 1:
+        old = old * len(new)
+    if new and len(old) < len(new):
+        print("respell: by hand:", path)
+        return
+    names = iter("tree_of_rows" if name == "tree-of" else "tree_of" for name in old)
+    text = TREE_NAMES.sub(lambda match: next(names), text)
+    text = text.replace("treeOf-", "tree_of-").replace("recordOf", "record_of")
+    if text != read(path):
+        with open(path, "w", encoding="utf-8") as file:
+            file.write(text)
+
+
 def turned(match):
     return match.group().replace("-", "_")
 
@@ -62,6 +92,8 @@ def main():
     sources = sorted(glob.glob("crates/*/src/**/*.rt", recursive=True))
     edits = sorted(glob.glob("crates/*/must-fail/*.edit"))
     pages = sorted(glob.glob("docs/*.md") + ["README.md"])
+    for path in lemmas + walked + sources + edits + pages:
+        set_apart(path)
     foreign = {path: foreign_in(read(path), names) for path in lemmas + walked + sources}
     kit = set().union(*foreign.values())
     own = set()
@@ -75,8 +107,15 @@ def main():
     def respell(text):
         return NAME.sub(lambda match: turned(match) if match.group() in own else match.group(), text)
 
+    # port.py has respelled some names already, in the files of specs/ and proofs/ alone.
+    words = set(re.findall(r"[\w']+", "".join(read(path) for path in lemmas)))
+
     def quoted(text):
-        return QUOTED.sub(lambda match: respell(match.group()), text)
+        def named(match):
+            name = match.group()
+            return turned(match) if name in own or name.replace("-", "_") in words else name
+
+        return QUOTED.sub(lambda match: NAME.sub(named, match.group()), text)
 
     def write(path, text):
         old = read(path)

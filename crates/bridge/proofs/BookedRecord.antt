@@ -11,8 +11,8 @@ use lib.ListN.{length, take}
 use Rattle.tree.specs.declared.Row.{Row}
 use Rattle.tree.specs.declared.Plan.{Plan}
 use Rattle.tree.specs.Search.{if◌then◌else◌}
-use Rattle.tree.specs.Tree.{Tree, present, path, path_of, step}
-use Rattle.tree.specs.Opening.{divisor, opened, start_in, start_given}
+use Rattle.tree.specs.Tree.{Tree, present, path, path_of}
+use Rattle.tree.specs.Opening.{opened, start_in, start_given}
 use Rattle.tree.specs.Asking.{rows_11}
 use Rattle.tree.specs.Record.{path_at, legal, tree_of, numbers, record_of}
 use Rattle.paths.specs.Rules.{row_of, same_node, Spot, place_of, split_path, split_lines, booked_path, booked_at}

@@ -10,7 +10,6 @@ use lib.ListN.{length}
 use Rattle.tree.specs.Search.{if◌then◌else◌, found}
 use Rattle.tree.specs.Tree.{Tree, nothing, present, row, is_open, Place}
 use Rattle.tree.specs.Opening.{opened, start_given}
-use Rattle.tree.specs.Closing.{closed}
 use Rattle.tree.specs.Refusals.{no_room, period_out_of_range, open_refusal}
 use Rattle.tree.specs.Calls.{Call, open_line, close_line, booked, done, refused, refusal, reply, carried_out, answer_unless, answer}
 use Rattle.tree.specs.Record.{path_at, no_rows, legal, record_of}

@@ -7,13 +7,12 @@ use mathlib.Core.Path.{◌≡◌, refl, sym, ◌∙◌, ap, subst}
 use mathlib.Core.Logic.{◌⊎◌, inl, inr}
 use mathlib.Core.Bool.{true}
 use mathlib.Core.List.{List, [], ◌∷◌}
-use mathlib.Core.Option.{none}
 use borrow.Author.Tests.{lt-ltb}
 use lib.ListN.{length, take}
 use Rattle.tree.specs.declared.Row.{Row}
 use Rattle.tree.specs.declared.Plan.{Plan}
-use Rattle.tree.specs.Tree.{Tree, node, at, way, step}
-use Rattle.tree.specs.Opening.{divisor, class_at, opened, start_given}
+use Rattle.tree.specs.Tree.{Tree, at, way, step}
+use Rattle.tree.specs.Opening.{class_at, opened, start_given}
 use Rattle.tree.specs.Record.{path_at, legal, tree_of}
 use Rattle.paths.specs.Rules.{row_of, same_node, Spot, place_of, split_path, booked_path}
 use Rattle.tree.proofs.Standing.{start_below_period}

@@ -11,7 +11,7 @@ use mathlib.Core.Bool.{true, false, false≢true, not-eq-not, and-eq-true_iff}
 use mathlib.Core.Option.{some, get_or}
 use Rattle.tree.specs.Search.{found}
 use Rattle.tree.specs.Numbers.{divides, gcd}
-use Rattle.tree.specs.Tree.{Tree, nothing, line, node, present, is_open, period_of, start_of, product, at_digits, at, way_by_digits}
+use Rattle.tree.specs.Tree.{Tree, nothing, line, node, present, is_open, period_of, start_of, product, at_digits, way_by_digits}
 use Rattle.tree.specs.Standing.{Stands}
 use Rattle.tree.specs.Shape.{Edges, LegalUnder, Legal}
 use Rattle.tree.specs.Opening.{divisor, free, free_class, candidate, put, booking, book_by_digits}

@@ -8,7 +8,7 @@ use native.Mathlib.Nat.{one-mul, mul-zero, div-eq_of_lt}
 use mathlib.Core.Path.{◌≡◌, refl, sym, ◌∙◌, ap, subst}
 use mathlib.Core.Logic.{◌⊎◌, inl, inr}
 use mathlib.Core.Bool.{true, false}
-use mathlib.Core.Option.{none, some}
+use mathlib.Core.Option.{some}
 use borrow.Author.Tests.{not-false}
 use Rattle.tree.specs.Tree.{Tree, nothing, line, node, present, is_open, Place, at_digits, at, way, step}
 use Rattle.tree.specs.Standing.{Stands}

@@ -1,4 +1,3 @@
-use Prim.Native.Nat.{◌-◌}
 use mathlib.Core.Path.{sym, ◌∙◌}
 use Rattle.paths.specs.Rules.{line_under}
 use Rattle.paths.proofs.AllBelow.{so_far_none, so_far_more}

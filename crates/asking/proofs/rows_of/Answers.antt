@@ -1,5 +1,3 @@
-use Prim.Native.Nat.{◌-◌}
-use native.Mathlib.Omega.{arith}
 use mathlib.Core.Path.{ap₂}
 use Rattle.tree.specs.Tree.{row}
 use Rattle.paths.proofs.Filled.{filled_none, filled_more}
@@ -9,12 +7,6 @@ use Rattle.asking.proofs.rows_of.Goals as goal
 
 pub loop-row-init : goal.loop-row-init
 loop-row-init c = filled_none _ _ _ _
-
-pub offset_bounds-path-row : goal.offset_bounds-path-row
-offset_bounds-path-row c = omega arith
-
-pub bounds-path-row : goal.bounds-path-row
-bounds-path-row c = omega arith
 
 pub loop-row-preserved : goal.loop-row-preserved
 loop-row-preserved c = filled_more c.loop-row.invariant c.loop-row-test.true (ap₂ row c.weight-w.ensures c.edge-e.ensures)

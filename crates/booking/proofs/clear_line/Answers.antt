@@ -1,4 +1,3 @@
-use Prim.Native.Nat.{◌-◌}
 use Rattle.booking.proofs.ClearLine.{cleared_none, cleared_more, cleared_all}
 use Rattle.booking.proofs.clear_line.Goals as goal
 

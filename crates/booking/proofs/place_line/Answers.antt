@@ -1,4 +1,3 @@
-use Prim.Native.Nat.{◌-◌}
 use native.Mathlib.Omega.{arith}
 use Rattle.booking.proofs.PlacedPath.{level_fits, next_level_fits, copied_none, copied_fits, copied_more, placed_without, placed_with, placed_in_start}
 use Rattle.booking.proofs.place_line.Goals as goal

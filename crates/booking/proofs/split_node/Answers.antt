@@ -1,4 +1,3 @@
-use Prim.Native.Nat.{◌-◌}
 use Rattle.paths.proofs.PathRows.{within_path}
 use Rattle.booking.proofs.SplitNode.{split_below_none, split_below_other, split_below_more, split_below_all, through_splittable}
 use Rattle.booking.proofs.split_node.Goals as goal

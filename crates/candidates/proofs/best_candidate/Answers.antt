@@ -1,4 +1,3 @@
-use Prim.Native.Nat.{◌-◌}
 use native.Mathlib.Omega.{arith}
 use mathlib.Core.Path.{sym, ◌∙◌}
 use Rattle.candidates.proofs.BestOnPath.{best_of_none, best_of_more, best_of_closed, best_of_all}

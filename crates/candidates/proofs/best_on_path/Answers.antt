@@ -1,4 +1,3 @@
-use Prim.Native.Nat.{◌-◌}
 use native.Mathlib.Omega.{arith}
 use Rattle.paths.proofs.PathRest.{path_length_at_most_11}
 use Rattle.candidates.proofs.BestOnPath.{at_root, at_end, offset_small, step_small, next_level}

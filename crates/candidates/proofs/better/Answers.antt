@@ -26,17 +26,16 @@ returns-then-seen_earlier c = seen_before _ _ c.requires.reached c.requires.in_r
 
 pub spot_at-offer-requires : goal.spot_at-offer-requires
 unfolding divides
-spot_at-offer-requires c =
-    (
-      record {
-        is_legal = c.requires.in_record.1;
-        lines = c.requires.in_record.3;
-        line_below = c.requires.in_record.0;
-        on_path = c.requires.in_record.2;
-        unseen = sym c.seen_earlier.ensures ∙ c.if-seen_earlier.false;
-      },
-      (step_positive _ c.requires.reached c.requires.in_record.1 c.requires.in_record.0, eq-eqb _ _ c.if-period-step-ne0.false),
-    )
+spot_at-offer-requires c = (
+  record {
+    is_legal = c.requires.in_record.1;
+    lines = c.requires.in_record.3;
+    line_below = c.requires.in_record.0;
+    on_path = c.requires.in_record.2;
+    unseen = sym c.seen_earlier.ensures ∙ c.if-seen_earlier.false;
+  },
+  (step_positive _ c.requires.reached c.requires.in_record.1 c.requires.in_record.0, eq-eqb _ _ c.if-period-step-ne0.false),
+)
 
 pub returns-in_default : goal.returns-in_default
 returns-in_default c = no_offer _ c.requires.reached c.spot_at-offer.ensures c.in_default.is

@@ -2,7 +2,6 @@ use Prim.Native.Nat.{ℕ, ◌<◌}
 use native.Mathlib.Omega.{arith}
 use native.Mathlib.Nat.{mod-lt}
 use mathlib.Core.Path.{◌≡◌, refl, sym, ◌∙◌}
-use Rattle.tree.specs.Numbers as numbers
 use Rattle.candidates.proofs.Euclid.{gcd_zero, gcd_division}
 use Rattle.candidates.proofs.gcd.Goals as goal
 

@@ -1,4 +1,3 @@
-use Prim.Native.Nat.{◌-◌}
 use mathlib.Core.Path.{sym}
 use Rattle.paths.proofs.AllBelow.{so_far_none}
 use Rattle.candidates.proofs.SeenEarlier.{unseen_more, seen_there, unseen_all}

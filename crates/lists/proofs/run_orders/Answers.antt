@@ -1,4 +1,3 @@
-use Prim.Native.Nat.{◌-◌}
 use Rattle.lists.proofs.OrdersInTurn.{running_none, running_more, running_all}
 use Rattle.lists.proofs.run_orders.Goals as goal
 

@@ -1,4 +1,3 @@
-use Prim.Native.Nat.{◌-◌}
 use mathlib.Core.Path.{sym, ◌∙◌}
 use Rattle.paths.specs.Answers.{joins_earlier}
 use Rattle.paths.proofs.AllBelow.{so_far_none, so_far_more, tested_fault, tested_all}

@@ -1,7 +1,5 @@
-use Prim.Native.Nat.{◌-◌}
 use native.Mathlib.Omega.{arith}
 use mathlib.Core.Path.{sym, ◌∙◌}
-use Rattle.paths.specs.Answers.{line_legal}
 use Rattle.paths.proofs.AllBelow.{so_far_none, so_far_more, tested_fault, tested_all}
 use Rattle.paths.proofs.LegalLines.{legal_by_lines}
 use Rattle.paths.proofs.legal.Goals as goal

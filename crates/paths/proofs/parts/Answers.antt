@@ -1,4 +1,3 @@
-use Prim.Native.Nat.{◌-◌}
 use mathlib.Core.Path.{sym}
 use Rattle.paths.proofs.PathsPart.{alike_start, both_ended, first_ended, other_node, other_edge, same_edge}
 use Rattle.paths.proofs.parts.Goals as goal

@@ -1,4 +1,3 @@
-use Prim.Native.Nat.{◌-◌}
 use native.Mathlib.Omega.{arith}
 use Rattle.paths.proofs.PathLength.{passed_none, passed_row, passed_path, passed_all}
 use Rattle.paths.proofs.path_length.Goals as goal

@@ -1,4 +1,3 @@
-use Prim.Native.Nat.{◌-◌}
 use mathlib.Core.Path.{sym}
 use Rattle.paths.proofs.UnusedRows.{unused_start, unused_all, row_used, unused_more}
 use Rattle.paths.proofs.rest_unused.Goals as goal

@@ -1,4 +1,3 @@
-use Prim.Native.Nat.{◌-◌}
 use Rattle.asking.proofs.NearestTurn.{nearest_of_none, nearest_of_one_more, no_turn_rest, nearest_turn_rest}
 use Rattle.asking.proofs.rest.rest_of.Goals as goal
 

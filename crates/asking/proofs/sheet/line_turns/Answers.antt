@@ -17,11 +17,12 @@ turns_of-requires c =
     rw (c.times_of.ensures.0, c.times_of.ensures.1) (path_start_below _ given.0 _ given.1)
 
 pub overflow_cast-result : goal.overflow_cast-result
-overflow_cast-result c = omega (arith, (let given = c.requires in
+overflow_cast-result c =
     let is_there = sym c.is_closed.ensures ∙ c.if-is_closed.false in
-    turns_of_open _ given.0 _ given.1 _ _ is_there c.times_of.ensures.0 c.times_of.ensures.1 c.turns_of.ensures).1)
+    let counted = turns_of_open _ c.requires.0 _ c.requires.1 _ _ is_there c.times_of.ensures.0 c.times_of.ensures.1 c.turns_of.ensures in
+    omega (arith, counted.1)
 
 pub returns : goal.returns
-returns c = (let given = c.requires in
+returns c =
     let is_there = sym c.is_closed.ensures ∙ c.if-is_closed.false in
-    turns_of_open _ given.0 _ given.1 _ _ is_there c.times_of.ensures.0 c.times_of.ensures.1 c.turns_of.ensures).0
+    (turns_of_open _ c.requires.0 _ c.requires.1 _ _ is_there c.times_of.ensures.0 c.times_of.ensures.1 c.turns_of.ensures).0

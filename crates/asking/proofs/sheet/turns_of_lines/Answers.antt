@@ -1,5 +1,3 @@
-use Prim.Native.Nat.{◌-◌}
-use Rattle.tree.specs.Sheet.{line_turns}
 use Rattle.paths.proofs.Filled.{filled_none, filled_more, filled_all}
 use Rattle.asking.proofs.sheet.turns_of_lines.Goals as goal
 

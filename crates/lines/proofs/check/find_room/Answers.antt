@@ -12,12 +12,11 @@ returns-then-end-eq0 c = root_found c.lines_end-end.ensures c.if-end-eq0.true
 
 pub returns-in_default : goal.returns-in_default
 unfolding Searched spot_of
-returns-in_default c =
-    (
-      refl,
-      no_room_found c.lines_end-end.ensures _ c.requires c.if-end-eq0.false
-          (sym c.best_candidate-chosen.ensures ∙ ap spot_of c.in_default.is),
-    )
+returns-in_default c = (
+  refl,
+  no_room_found c.lines_end-end.ensures _ c.requires c.if-end-eq0.false
+      (sym c.best_candidate-chosen.ensures ∙ ap spot_of c.in_default.is),
+)
 
 pub returns : goal.returns
 unfolding Searched spot_of

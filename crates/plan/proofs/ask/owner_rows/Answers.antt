@@ -2,8 +2,6 @@
 -- Assumes nothing.
 use native.Mathlib.Nat.{add-zero}
 use mathlib.Core.Path.{sym, ◌∙◌, ap}
-use mathlib.Core.Bool.{true}
-use Rattle.tree.specs.Record.{legal}
 use Rattle.tree.proofs.Resting.{owned_exactly, idle_exactly}
 use Rattle.bridge.proofs.AskingRecords.{owner_on_illegal, owner_on_record}
 use Rattle.asking.specs.Answers.{owner_answered}
