@@ -1,4 +1,4 @@
-// A test of the list call, against the output of `second list_answers`: a script of steps is read from standard input,
+// A test of the list call, against the output of `second list-answers`: a script of steps is read from standard input,
 // lists are run on one plan after another, and each answer is printed. second/src/list_script.rs says the formats.
 #![tactic(auto)]
 
