@@ -60,14 +60,14 @@ fn append_spaced(text: &mut [u8], at: usize, number: u64) -> usize
 }
 
 // Writes the start of a line that was opened, and `-` for every other order.
-fn append_start(text: &mut [u8], at: usize, kind: u64, res: u64, start: u64) -> usize
-    requires { Room text.old at (start_printed kind res start) }
-    ensures { Appended text.old at (start_printed kind res start) text.new result }
+fn append_start(text: &mut [u8], at: usize, kind: u64, result_field: u64, start: u64) -> usize
+    requires { Room text.old at (start_printed kind result_field start) }
+    ensures { Appended text.old at (start_printed kind result_field start) text.new result }
 {
     if kind != 0 {
         return append_byte(text, at, b'-');
     }
-    if res != 0 {
+    if result_field != 0 {
         return append_byte(text, at, b'-');
     }
     append_decimal(text, at, start)
@@ -79,19 +79,19 @@ fn append_line(
     at: usize,
     number: u64,
     fields: OrderFields,
-    res: u64,
+    result_field: u64,
     start: u64,
 ) -> usize
-    requires { Room text.old at (line_printed number fields res start) }
-    ensures { Appended text.old at (line_printed number fields res start) text.new result }
+    requires { Room text.old at (line_printed number fields result_field start) }
+    ensures { Appended text.old at (line_printed number fields result_field start) text.new result }
 {
     let period = fields.period;
     let kind_at = append_spaced(text, at, number);
     let line_at = append_spaced(text, kind_at, fields.kind);
     let period_at = append_spaced(text, line_at, fields.line);
     let result_at = append_spaced(text, period_at, period.0 as u64);
-    let start_at = append_spaced(text, result_at, res);
-    let end_at = append_start(text, start_at, fields.kind, res, start);
+    let start_at = append_spaced(text, result_at, result_field);
+    let end_at = append_start(text, start_at, fields.kind, result_field, start);
     append_byte(text, end_at, b'\n')
 }
 
