@@ -1,4 +1,3 @@
-use Prim.Native.Nat.{◌-◌}
 use borrow.Author.Rules.{rules}
 use Rattle.gaplinte.proofs.SheetWritten.{no_turns_written, turns_more_written, sheet_written}
 use Rattle.gaplinte.proofs.sheet.sheet_numbers.Goals as goal
