@@ -1,3 +1,4 @@
+use native.Mathlib.Omega.{arith}
 use mathlib.Core.Path.{refl}
 use lib.ListN.{replicate, length-set}
 use borrow.Author.Rules.{rules}
@@ -8,7 +9,7 @@ pub loop-k-init : goal.loop-k-init
 loop-k-init c = no_rows _ _ (search rules) (simp length-set)
 
 pub loop-k-preserved : goal.loop-k-preserved
-loop-k-preserved c = rows_more _ c.loop-k.invariant c.loop-k-test.true
+loop-k-preserved c = rows_more _ c.loop-k.invariant (omega (arith, c.loop-k-test.true))
 
 pub returns : goal.returns
 returns c = rows_all _ (replicate 24 0) _ _ _ _ c.loop-k.invariant refl c.loop-k-test.false
