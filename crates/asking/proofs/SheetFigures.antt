@@ -1,12 +1,13 @@
 -- The figures of a sheet (crate tree, specs/Sheet.antt) of a legal record: a line's turns, whether a round is idle, and the loop that counts idle rounds.
 -- Assumes nothing.
+use Rattle.std.specs.Prelude.{if◌then◌else◌}
 use Prim.Native.Nat.{ℕ, ◌+◌, ◌<◌, ◌≤◌, zero-le}
 use native.Mathlib.Omega.{arith}
 use mathlib.Core.Path.{◌≡◌, refl, sym, ◌∙◌, ap}
 use mathlib.Core.Bool.{true, false, not}
 use mathlib.Core.List.{List}
 use mathlib.Core.Option.{Option}
-use Rattle.tree.specs.Search.{if◌then◌else◌, found, total_below, count_below}
+use Rattle.tree.specs.Search.{found, total_below, count_below}
 use Rattle.tree.specs.Tree.{Tree, product, sum}
 use Rattle.tree.specs.Asking.{owned}
 use Rattle.tree.specs.Sheet.{line_turns, idle_rounds}

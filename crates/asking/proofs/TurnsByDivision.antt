@@ -1,5 +1,6 @@
 -- Turns by division (specs/Turns.antt) is how many rounds a line owns, in every legal tree.
 -- Assumes nothing.
+use Rattle.std.specs.Prelude.{if◌then◌else◌}
 use Prim.Native.Nat.{ℕ, zero, suc, ◌+◌, ◌-◌, ◌*◌, ◌/◌, ◌%◌, ◌<◌, ◌≤◌}
 use native.Mathlib.Omega.{arith}
 use native.Mathlib.Nat.{mod-add-div, mod-lt, mod-eq_of_lt, mod-add-mod, add-mod-mod, add-mod_right, add-mul-mod_self_left, add-mul-div_left, add-div_right, div-eq_of_lt, div-eq_of_lt-le}
@@ -9,7 +10,7 @@ use mathlib.Core.Bool.{Bool, true, false}
 use mathlib.Core.List.{List}
 use lib.Dec.{eqb, ltb}
 use borrow.Author.Tests.{eqb-true, eqb-false, eq-eqb, ne_eqb, lt-ltb, le-ltb}
-use Rattle.tree.specs.Search.{if◌then◌else◌, total_below, count_below}
+use Rattle.tree.specs.Search.{total_below, count_below}
 use Rattle.tree.specs.Tree.{Tree, product, sum, is_open, period_of, start_of}
 use Rattle.tree.specs.Shape.{Legal}
 use Rattle.tree.specs.Asking.{turns}

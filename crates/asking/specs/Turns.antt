@@ -1,9 +1,8 @@
 -- Turns by a line's times, period p and start s: the formula that `turns_of` computes. That it is how many rounds the line owns is a law,
 -- proofs/TurnsByDivision.antt. Then the nearest turn of several lines, which is the rest of a round: proofs/NearestTurn.antt.
 -- Assumes nothing.
-use Rattle.std.specs.Prelude.{ℕ, ◌+◌, ◌-◌, ◌/◌, ◌%◌, min, List, ltb}
+use Rattle.std.specs.Prelude.{ℕ, ◌+◌, ◌-◌, ◌/◌, ◌%◌, min, List, ltb, if◌then◌else◌}
 use Rattle.tree.specs.declared.Row.{Row}
-use Rattle.tree.specs.Search.{if◌then◌else◌}
 use Rattle.tree.specs.Tree.{product, sum}
 use Rattle.tree.specs.Record.{no_rows}
 

@@ -1,6 +1,6 @@
 // The figures of a beamtime sheet: the turns of each line, and the idle rounds, which the walk counts round by round.
-ghost use Rattle.std.specs.Prelude.{◌≡◌, true, not, ◌+◌, ◌<◌};
-ghost use Rattle.tree.specs.Search.{if◌then◌else◌, each_below};
+ghost use Rattle.std.specs.Prelude.{◌≡◌, true, not, ◌+◌, ◌<◌, if◌then◌else◌};
+ghost use Rattle.tree.specs.Search.{each_below};
 ghost use Rattle.tree.specs.Asking.{owned};
 ghost use Rattle.tree.specs.Sheet.{line_turns, idle_rounds, sheet};
 ghost use Rattle.tree.specs.Record.{legal};

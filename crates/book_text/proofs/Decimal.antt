@@ -1,5 +1,6 @@
 -- The decimal digits of a number (specs/BookText.antt): one digit, or the digits in front of the last one and that one; how many they are.
 -- Assumes nothing.
+use Rattle.std.specs.Prelude.{if◌then◌else◌}
 use Prim.Native.Nat.{ℕ, zero, suc, ◌+◌, ◌*◌, ◌/◌, ◌%◌, ◌<◌, ◌≤◌}
 use native.Mathlib.Omega.{arith}
 use mathlib.Core.Path.{◌≡◌, refl, ap}
@@ -8,7 +9,6 @@ use mathlib.Core.List.{List, [], ◌∷◌, ◌++◌}
 use lib.Dec.{ltb}
 use lib.ListN.{length, length-append}
 use borrow.Author.Tests.{ltb-true, ltb-false, lt-ltb, le-ltb}
-use Rattle.tree.specs.Search.{if◌then◌else◌}
 use Rattle.book_text.specs.BookText.{last_digits, decimal}
 
 -- so many digits as there are, and more, are the same ones

@@ -1,5 +1,6 @@
 -- The whole text: what running the list tells of its answers, and the header with what follows it.
 -- Assumes nothing.
+use Rattle.std.specs.Prelude.{if◌then◌else◌}
 use Prim.Native.Nat.{ℕ, ◌+◌, ◌*◌, ◌/◌, ◌%◌, ◌<◌, ◌≤◌}
 use native.Mathlib.Omega.{arith}
 use mathlib.Core.Path.{◌≡◌, refl, sym, ◌∙◌, ap}
@@ -11,7 +12,6 @@ use lib.Seq.{take-append_seam, take_at}
 use lib.Dec.{ltb}
 use borrow.Author.Tests.{lt-ltb, le-ltb}
 use Rattle.tree.specs.declared.Plan.{Plan}
-use Rattle.tree.specs.Search.{if◌then◌else◌}
 use Rattle.tree.specs.Tree.{Tree, nothing, path, path_of}
 use Rattle.tree.specs.Asking.{rows_11}
 use Rattle.tree.specs.Record.{tree_of, record_of, numbers, numbers_below}

@@ -1,8 +1,7 @@
 -- The text that the program `book` prints for the bytes of its input (document 01, Orders, 7 and 8). Its bytes are ASCII.
 -- Assumes nothing.
-use Rattle.std.specs.Prelude.{ℕ, zero, suc, ◌+◌, ◌/◌, ◌%◌, List, [], ◌∷◌, ◌++◌, ltb, length}
+use Rattle.std.specs.Prelude.{ℕ, zero, suc, ◌+◌, ◌/◌, ◌%◌, List, [], ◌∷◌, ◌++◌, ltb, length, if◌then◌else◌}
 use Prim.Native.Char.{code}
-use Rattle.tree.specs.Search.{if◌then◌else◌}
 use Rattle.tree.specs.Tree.{nothing}
 use Rattle.tree.specs.Calls.{Answer, booked, done, refused}
 use Rattle.orders.specs.Order.{kind, line, period}

@@ -1,8 +1,7 @@
 -- What the functions of this crate promise of the lent text bytes.
 -- Assumes nothing.
-use Rattle.std.specs.Prelude.{ℕ, ◌+◌, ◌*◌, ◌/◌, ◌%◌, ◌≤◌, ◌≡◌, ◌&&◌, List, [], ◌∷◌, ◌++◌, eqb, ltb, length, take, drop}
+use Rattle.std.specs.Prelude.{ℕ, ◌+◌, ◌*◌, ◌/◌, ◌%◌, ◌≤◌, ◌≡◌, ◌&&◌, List, [], ◌∷◌, ◌++◌, eqb, ltb, length, take, drop, if◌then◌else◌}
 use Prim.Native.Char.{code}
-use Rattle.tree.specs.Search.{if◌then◌else◌}
 use Rattle.tree.specs.Tree.{nothing}
 use Rattle.orders.specs.declared.OrderFields.{OrderFields}
 use Rattle.lists.specs.Lists.{orders_of, list_answers, answer_bytes}

@@ -1,5 +1,6 @@
 -- The rows of a booked path (`booked_path`, crate paths, specs/Rules.antt), the invariant of `place_line`'s loop, and the path of a first line.
 -- Assumes nothing.
+use Rattle.std.specs.Prelude.{if◌then◌else◌}
 use Prim.Native.Nat.{ℕ, suc, ◌+◌, ◌<◌, ◌≤◌, zero-le}
 use native.Mathlib.Omega.{arith}
 use mathlib.Core.Path.{◌≡◌, refl, sym, ◌∙◌, ap, ap₂}
@@ -9,7 +10,6 @@ use lib.ListN.{length, take, length-append, get_or-append}
 use lib.Seq.{length-take-le, get_or-take, get_or-append_seam, get_or-append-add}
 use borrow.Author.Tests.{eq-eqb, ne_eqb}
 use Rattle.tree.specs.declared.Row.{Row}
-use Rattle.tree.specs.Search.{if◌then◌else◌}
 use Rattle.tree.specs.Tree.{row}
 use Rattle.tree.specs.Record.{row_at, path_at}
 use Rattle.paths.specs.Rules.{row_of, set_line, booked_path}

@@ -1,5 +1,6 @@
 -- The record of an opened tree: what the code writes into the record of the tree before (`booked_at` of crate paths, specs/Rules.antt).
 -- Assumes nothing.
+use Rattle.std.specs.Prelude.{if◌then◌else◌}
 use Prim.Native.Nat.{ℕ, ◌+◌, ◌*◌, ◌/◌, ◌<◌}
 use native.Mathlib.Omega.{arith}
 use mathlib.Core.Path.{◌≡◌, refl, sym, ◌∙◌, ap, subst}
@@ -10,7 +11,6 @@ use lib.Dec.{ltb}
 use lib.ListN.{length, take}
 use Rattle.tree.specs.declared.Row.{Row}
 use Rattle.tree.specs.declared.Plan.{Plan}
-use Rattle.tree.specs.Search.{if◌then◌else◌}
 use Rattle.tree.specs.Tree.{Tree, present, path, path_of}
 use Rattle.tree.specs.Opening.{opened, start_in, start_given}
 use Rattle.tree.specs.Asking.{rows_11}

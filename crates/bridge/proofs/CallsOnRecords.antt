@@ -1,5 +1,6 @@
 -- An open and a close on a legal record, each way that they can go: what is written is the record of the tree that the rules leave.
 -- Assumes nothing.
+use Rattle.std.specs.Prelude.{if◌then◌else◌}
 use Prim.Native.Nat.{ℕ, ◌+◌, ◌*◌, ◌<◌, ◌≤◌}
 use native.Mathlib.Omega.{arith}
 use mathlib.Core.Path.{◌≡◌, sym, ◌∙◌, ap, subst}
@@ -7,7 +8,7 @@ use mathlib.Core.Bool.{Bool, true, false, not, ◌&&◌, and-false}
 use mathlib.Core.List.{List, [], ◌∷◌}
 use mathlib.Core.Option.{Option, none, some}
 use lib.ListN.{length}
-use Rattle.tree.specs.Search.{if◌then◌else◌, found}
+use Rattle.tree.specs.Search.{found}
 use Rattle.tree.specs.Tree.{Tree, nothing, present, row, is_open, Place}
 use Rattle.tree.specs.Opening.{opened, start_given}
 use Rattle.tree.specs.Refusals.{no_room, period_out_of_range, open_refusal}

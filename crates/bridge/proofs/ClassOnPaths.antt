@@ -1,5 +1,6 @@
 -- What a level of a line's path offers (crate paths, specs/Rules.antt) is what the node there has: its smallest free class, if it is a candidate.
 -- Assumes nothing.
+use Rattle.std.specs.Prelude.{if◌then◌else◌}
 use Prim.Native.Nat.{ℕ, ◌%◌, ◌<◌}
 use native.Mathlib.Omega.{arith}
 use mathlib.Core.Path.{◌≡◌, refl, sym, ◌∙◌, ap, fun_ext}
@@ -12,7 +13,7 @@ use lib.ListN.{length, take}
 use borrow.Author.Tests.{eqb-true, eq-eqb}
 use Rattle.tree.specs.declared.Row.{Row}
 use Rattle.tree.specs.Numbers.{divides}
-use Rattle.tree.specs.Search.{if◌then◌else◌, found, smallest}
+use Rattle.tree.specs.Search.{found, smallest}
 use Rattle.tree.specs.Tree.{Tree, present, product, path, path_of, Place, at, step}
 use Rattle.tree.specs.Shape.{Legal}
 use Rattle.tree.specs.Opening.{divisor, free, free_class, candidate, candidate_at, class_at}

@@ -1,5 +1,6 @@
 -- The tree that grows line by line out of a legal record (`grown` of crate tree, specs/Record.antt): each line has the path held for it, and the tree is legal.
 -- Assumes nothing.
+use Rattle.std.specs.Prelude.{if◌then◌else◌}
 use Prim.Native.Nat.{ℕ, zero, suc, ◌<◌, ◌≤◌}
 use native.Mathlib.Omega.{arith}
 use native.Mathlib.Decide.{ℕ_discrete, dec_lt}
@@ -10,7 +11,7 @@ use mathlib.Core.Option.{Option, none, some, none-ne-some}
 use lib.Dec.{ltb}
 use borrow.Author.Tests.{ltb-true, lt-ltb, le-ltb}
 use Rattle.tree.specs.declared.Row.{Row}
-use Rattle.tree.specs.Search.{if◌then◌else◌, found}
+use Rattle.tree.specs.Search.{found}
 use Rattle.tree.specs.Tree.{path, is_open}
 use Rattle.tree.specs.Shape.{Legal}
 use Rattle.tree.specs.Record.{path_at, parts, no_rows, legal, stand, grown}

@@ -1,5 +1,6 @@
 -- A period of any size, asked as `tree::period_asked` hands it on: the open is answered, the record left, and the trial told, as for the period itself.
 -- Assumes nothing.
+use Rattle.std.specs.Prelude.{if◌then◌else◌}
 use Prim.Native.Nat.{ℕ, ◌<◌}
 use native.Mathlib.Omega.{arith}
 use native.Mathlib.Decide.{dec_lt}
@@ -9,7 +10,6 @@ use mathlib.Core.List.{List}
 use mathlib.Core.Option.{some}
 use lib.Dec.{ltb}
 use borrow.Author.Tests.{ltb-true}
-use Rattle.tree.specs.Search.{if◌then◌else◌}
 use Rattle.tree.specs.Tree.{Tree}
 use Rattle.tree.specs.Refusals.{open_refusal}
 use Rattle.tree.specs.Calls.{open_line, Answer, refusal, answer_unless, answer, gives_unless}

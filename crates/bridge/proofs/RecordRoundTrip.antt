@@ -1,6 +1,7 @@
 -- A record and its tree: the record of a legal tree has that tree, and a legal record is the record of its tree.
 -- So equal trees are equal records.
 -- Assumes nothing.
+use Rattle.std.specs.Prelude.{if◌then◌else◌}
 use Prim.Native.Nat.{ℕ, ◌<◌, ◌≤◌}
 use native.Mathlib.Omega.{arith}
 use native.Mathlib.Decide.{dec_lt}
@@ -11,7 +12,7 @@ use mathlib.Core.Option.{Option, none, some, get_or, none-ne-some}
 use lib.ListN.{length}
 use Rattle.tree.specs.declared.Row.{Row}
 use Rattle.tree.specs.declared.Plan.{Plan}
-use Rattle.tree.specs.Search.{if◌then◌else◌, all_below}
+use Rattle.tree.specs.Search.{all_below}
 use Rattle.tree.specs.Tree.{Tree, nothing, line, node, product, sum, path, path_of}
 use Rattle.tree.specs.Shape.{Legal}
 use Rattle.tree.specs.Record.{path_at, rows_in_range, alone, path_in_range, rest_unused, no_rows, parts, together, legal, tree_of, record_of}

@@ -1,5 +1,6 @@
 -- Routes after a booking: the new line's route, and what becomes of the routes that go through the node booked into and of those that do not.
 -- Assumes nothing.
+use Rattle.std.specs.Prelude.{if◌then◌else◌}
 use Prim.Native.Nat.{ℕ, zero, suc, ◌+◌, ◌*◌, ◌/◌, ◌%◌, ◌<◌}
 use native.Mathlib.Omega.{arith}
 use native.Mathlib.Decide.{dec_lt, ℕ_discrete}
@@ -11,7 +12,6 @@ use lib.Dec.{eqb, ltb}
 use lib.ListN.{length, take}
 use borrow.Author.Tests.{eq-eqb, ne_eqb, lt-ltb, le-ltb}
 use Rattle.tree.specs.declared.Row.{Row}
-use Rattle.tree.specs.Search.{if◌then◌else◌}
 use Rattle.tree.specs.Tree.{Tree, nothing, line, node, row, product, present, at_digits, way_by_digits}
 use Rattle.tree.specs.Opening.{divisor, split, put, one_edge, newcomer, booking, book_by_digits}
 use Rattle.paths.specs.Rules.{split_path, booked_path}

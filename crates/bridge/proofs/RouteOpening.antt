@@ -1,5 +1,6 @@
 -- Paths after opening a line: the new line's path, and what becomes of the others.
 -- Assumes nothing.
+use Rattle.std.specs.Prelude.{if◌then◌else◌}
 use Prim.Native.Nat.{ℕ, ◌*◌, ◌/◌, ◌<◌}
 use native.Mathlib.Nat.{one-mul}
 use mathlib.Core.Path.{◌≡◌, refl}
@@ -9,7 +10,6 @@ use mathlib.Core.Option.{none, some}
 use lib.Dec.{ltb}
 use lib.ListN.{length, take}
 use Rattle.tree.specs.declared.Row.{Row}
-use Rattle.tree.specs.Search.{if◌then◌else◌}
 use Rattle.tree.specs.Tree.{Tree, nothing, line, node, row, present, path, Place, at, way, step}
 use Rattle.tree.specs.Opening.{divisor, book_by_digits, class_at, book_into, chosen, opened}
 use Rattle.paths.specs.Rules.{split_path, booked_path}

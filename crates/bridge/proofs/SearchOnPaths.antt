@@ -1,12 +1,13 @@
 -- The search over the paths (`best_of_lines` of crate paths, specs/Rules.antt) finds the chosen candidate of the tree, and none only where none is chosen.
 -- Assumes nothing.
+use Rattle.std.specs.Prelude.{if◌then◌else◌}
 use Prim.Native.Nat.{ℕ, ◌<◌}
 use mathlib.Core.Path.{◌≡◌, refl, sym, ◌∙◌, ap, subst}
 use mathlib.Core.Bool.{true, false, false≢true, not-eq-not, and-eq-true_iff}
 use mathlib.Core.Option.{none, some}
 use lib.ListN.{length, take}
 use Rattle.tree.specs.Numbers.{divides}
-use Rattle.tree.specs.Search.{if◌then◌else◌, found}
+use Rattle.tree.specs.Search.{found}
 use Rattle.tree.specs.Tree.{Tree, nothing, line, node, sum, Place, at, way, step}
 use Rattle.tree.specs.Shape.{Legal}
 use Rattle.tree.specs.Opening.{divisor, free_class, candidate, candidate_at, before, NoCandidate, class_at, chosen}

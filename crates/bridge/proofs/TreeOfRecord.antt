@@ -1,5 +1,6 @@
 -- The tree of a record (`tree_of` of crate tree, specs/Record.antt): it is legal, and each line has the path that the record holds for it.
 -- Assumes nothing.
+use Rattle.std.specs.Prelude.{if◌then◌else◌}
 use Prim.Native.Nat.{ℕ, ◌<◌, ◌≤◌}
 use native.Mathlib.Omega.{arith}
 use mathlib.Core.Path.{◌≡◌, refl, sym, ◌∙◌, ap}
@@ -9,7 +10,7 @@ use mathlib.Core.Option.{Option, none, some, get_or}
 use borrow.Author.Tests.{lt-ltb, le-ltb}
 use Rattle.tree.specs.declared.Row.{Row}
 use Rattle.tree.specs.declared.Plan.{Plan}
-use Rattle.tree.specs.Search.{if◌then◌else◌, found}
+use Rattle.tree.specs.Search.{found}
 use Rattle.tree.specs.Tree.{nothing, path, is_open, path_of}
 use Rattle.tree.specs.Shape.{Legal}
 use Rattle.tree.specs.Record.{path_at, no_rows, legal, grown, tree_of}

@@ -1,5 +1,6 @@
 -- The walk over paths (`walk_on_paths` and `owner_on_paths` of crate paths, specs/Rules.antt) goes as the walk over the tree.
 -- Assumes nothing.
+use Rattle.std.specs.Prelude.{if◌then◌else◌}
 use Prim.Native.Nat.{ℕ, zero, suc, ◌+◌, ◌/◌, ◌%◌, ◌<◌, ◌≤◌}
 use native.Mathlib.Omega.{arith}
 use native.Mathlib.Nat.{mod-lt}
@@ -12,7 +13,7 @@ use lib.ListN.{length, drop}
 use lib.Seq.{drop-length}
 use borrow.Author.Tests.{eqb-true, eqb-false, eq-eqb, not-true, not-false}
 use Rattle.tree.specs.declared.Row.{Row}
-use Rattle.tree.specs.Search.{if◌then◌else◌, smallest}
+use Rattle.tree.specs.Search.{smallest}
 use Rattle.tree.specs.Tree.{Tree, nothing, line, node, present, sum_from, sum, path, at_digits, at}
 use Rattle.tree.specs.Shape.{Legal}
 use Rattle.tree.specs.Asking.{owner}

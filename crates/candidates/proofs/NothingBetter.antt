@@ -1,12 +1,12 @@
 -- What is no better than the best so far: by its place, and because it was offered earlier.
 -- Assumes nothing.
+use Rattle.std.specs.Prelude.{if◌then◌else◌}
 use Prim.Native.Nat.{ℕ, ◌<◌}
 use mathlib.Core.Path.{◌≡◌, refl}
 use mathlib.Core.Bool.{Bool, true, false}
 use mathlib.Core.Logic.{inl}
 use mathlib.Core.Option.{Option, some, some_inj}
 use lib.ListN.{length}
-use Rattle.tree.specs.Search.{if◌then◌else◌}
 use Rattle.tree.specs.Opening.{before}
 use Rattle.paths.specs.Rules.{Family, Spot, place_of, spot_at, better_spot, best_on_path, best_of_lines}
 use Rattle.tree.proofs.PlaceOrder.{before_not_self}

@@ -1,5 +1,6 @@
 -- Two paths through one node of a tree have the same rows above it and the same offer there, so a node is searched once.
 -- Assumes nothing.
+use Rattle.std.specs.Prelude.{if◌then◌else◌}
 use Prim.Native.Nat.{ℕ, zero, suc, ◌+◌, ◌<◌, ◌≤◌}
 use mathlib.Core.Path.{◌≡◌, refl, sym, ◌∙◌}
 use mathlib.Core.Bool.{Bool, true, false, false≢true, and-eq-true_iff}
@@ -10,7 +11,6 @@ use lib.ListN.{take}
 use borrow.Author.Tests.{eqb-true}
 use Rattle.tree.specs.declared.Row.{Row}
 use Rattle.tree.specs.Numbers.{divides}
-use Rattle.tree.specs.Search.{if◌then◌else◌}
 use Rattle.tree.specs.Tree.{product, sum}
 use Rattle.tree.specs.Opening.{divisor}
 use Rattle.tree.specs.Record.{path_at, parts, no_rows, together, legal}

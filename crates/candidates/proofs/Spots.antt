@@ -1,5 +1,6 @@
 -- What a node on a path has to offer, and the better of it and the best so far.
 -- Assumes nothing.
+use Rattle.std.specs.Prelude.{if◌then◌else◌}
 use Prim.Native.Nat.{ℕ, ◌/◌, ◌<◌}
 use mathlib.Core.Path.{◌≡◌, refl, sym, ap}
 use mathlib.Core.Bool.{Bool, true, false, true≢false}
@@ -8,7 +9,6 @@ use mathlib.Core.Option.{Option, none, some, map, none-ne-some, some_inj}
 use lib.Dec.{ltb}
 use lib.ListN.{length}
 use Rattle.tree.specs.Numbers.{divides, gcd}
-use Rattle.tree.specs.Search.{if◌then◌else◌}
 use Rattle.tree.specs.Tree.{Place}
 use Rattle.tree.specs.Opening.{divisor}
 use Rattle.tree.specs.Record.{row_at, path_at}

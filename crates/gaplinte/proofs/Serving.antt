@@ -1,5 +1,6 @@
 -- The ways that a call of the library can go: it gives what the call below it gave, or hands on its refusal.
 -- Assumes nothing.
+use Rattle.std.specs.Prelude.{if◌then◌else◌}
 use Prim.Native.Nat.{ℕ}
 use mathlib.Core.Path.{◌≡◌, refl, sym, ◌∙◌, ap}
 use mathlib.Core.Bool.{Bool, true, false}
@@ -9,7 +10,6 @@ use lib.Dec.{ltb}
 use lib.IntN.{ℤ}
 use mir.Syntax.{w64}
 use mir.Val.{to_z, of_z}
-use Rattle.tree.specs.Search.{if◌then◌else◌}
 use Rattle.tree.specs.Tree.{Tree}
 use Rattle.tree.specs.Asking.{OwnerOrRest, owner_or_rest}
 use Rattle.tree.specs.Refusals.{first_refusal, line_above_63}

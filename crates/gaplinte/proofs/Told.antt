@@ -1,5 +1,6 @@
 -- An answer of a call tells its outcome, since no refusal is 0: the calls refuse with 1 to 9 alone, and every value is below 2^32.
 -- Assumes nothing.
+use Rattle.std.specs.Prelude.{if◌then◌else◌}
 use Prim.Native.Nat.{ℕ, zero, suc, ◌-◌, ◌^◌, ◌%◌, ◌<◌, ◌≤◌}
 use native.Mathlib.Omega.{arith}
 use mathlib.Core.Path.{◌≡◌, refl, ◌∙◌, ap}
@@ -11,7 +12,6 @@ use lib.ListN.{length}
 use mir.Syntax.{Width, w8, w16, w32, w64, w128}
 use mir.Val.{bits, SFits, to_z}
 use mir.ValLaws.{to_z-of_z}
-use Rattle.tree.specs.Search.{if◌then◌else◌}
 use Rattle.tree.specs.Tree.{Tree, is_open}
 use Rattle.tree.specs.Shape.{Legal}
 use Rattle.tree.specs.Opening.{opened, start_given}

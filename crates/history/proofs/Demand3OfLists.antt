@@ -1,12 +1,12 @@
 -- Demand 3 of a list of orders run on the empty plan (specs/OrdersRun.antt): the orders that can be read have the answers and the tree of the rules.
 -- Assumes nothing.
+use Rattle.std.specs.Prelude.{if◌then◌else◌}
 use Prim.Native.Nat.{ℕ}
 use native.Mathlib.Omega.{arith}
 use mathlib.Core.Path.{◌≡◌, refl, sym, ◌∙◌, ap}
 use mathlib.Core.Bool.{Bool, true, false}
 use mathlib.Core.List.{List, [], ◌∷◌}
 use Rattle.tree.specs.declared.Plan.{Plan}
-use Rattle.tree.specs.Search.{if◌then◌else◌}
 use Rattle.tree.specs.Tree.{Tree, nothing}
 use Rattle.tree.specs.Shape.{Legal}
 use Rattle.tree.specs.Calls.{Call, answer, after, Outcome, gives, refuses}

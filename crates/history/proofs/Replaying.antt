@@ -1,5 +1,6 @@
 -- Running a list of numbers call by call (specs/Replay.antt): no call, one more, and a period above 4,095.
 -- Assumes nothing.
+use Rattle.std.specs.Prelude.{if◌then◌else◌}
 use Prim.Native.Nat.{ℕ, zero, suc, ◌+◌, ◌*◌, ◌/◌, ◌<◌, ◌≤◌, min}
 use native.Mathlib.Nat.{min-le_left, min-le_right}
 use native.Mathlib.Numerals.{add-one}
@@ -12,7 +13,6 @@ use lib.ListN.{length, drop, get_or, set, length-append, length-set}
 use lib.Seq.{drop-cons, set_at}
 use Rattle.tree.specs.declared.Plan.{Plan}
 use Rattle.tree.specs.declared.Sheet.{Sheet}
-use Rattle.tree.specs.Search.{if◌then◌else◌}
 use Rattle.tree.specs.Calls.{Call, open_line, Answer, refusal, carried_out}
 use Rattle.tree.specs.Asking.{owner_or_rest}
 use Rattle.tree.specs.Sheet.{sheet}

@@ -1,5 +1,6 @@
 -- The sheet after a list of opens and closes is the one by the ledger, and it adds up (specs/Sheets.antt): by value, on a lent record, and of the library.
 -- Assumes nothing.
+use Rattle.std.specs.Prelude.{if◌then◌else◌}
 use Prim.Native.Nat.{ℕ, ◌+◌, ◌%◌, ◌<◌}
 use native.Mathlib.Omega.{arith}
 use native.Mathlib.Decide.{dec_lt}
@@ -12,7 +13,7 @@ use lib.ListN.{get_or-eq_default}
 use lib.Seq.{take_at, get_or_at}
 use borrow.Author.Tests.{eqb-true, eq-eqb}
 use Rattle.tree.specs.declared.Sheet.{Sheet}
-use Rattle.tree.specs.Search.{if◌then◌else◌, found, some_below, total_below, count_below}
+use Rattle.tree.specs.Search.{found, some_below, total_below, count_below}
 use Rattle.tree.specs.Tree.{Tree}
 use Rattle.tree.specs.Shape.{Legal}
 use Rattle.tree.specs.Asking.{owner, owns, owned, turns}

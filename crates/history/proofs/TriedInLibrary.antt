@@ -1,5 +1,6 @@
 -- A trial in the library and then the open (specs/TriedInLibrary.antt): what is read out of the numbers is what the rules give, so the open does what was read.
 -- Assumes nothing.
+use Rattle.std.specs.Prelude.{if◌then◌else◌}
 use Prim.Native.Nat.{ℕ, zero, suc, ◌<◌}
 use native.Mathlib.Omega.{arith}
 use mathlib.Core.Path.{◌≡◌, refl, ap}
@@ -8,7 +9,6 @@ use mathlib.Core.List.{List}
 use mathlib.Core.Option.{Option, none, some}
 use lib.Dec.{eqb}
 use lib.IntN.{pos, neg_ℤ}
-use Rattle.tree.specs.Search.{if◌then◌else◌}
 use Rattle.tree.specs.Refusals.{open_refusal}
 use Rattle.tree.specs.Calls.{open_line, refusal, gives, refuses, gives_unless}
 use Rattle.tree.specs.Trial.{Trial, trial, trial_outcome}

@@ -1,9 +1,8 @@
 -- What `replay` makes of a lent list of numbers: the calls that it runs, the answers that it writes, and the claim about them.
 -- Assumes nothing.
-use Rattle.std.specs.Prelude.{ℕ, zero, suc, ◌+◌, ◌*◌, ◌/◌, min, ◌≡◌, List, [], ◌∷◌, ◌++◌, eqb, length, get_or, drop}
+use Rattle.std.specs.Prelude.{ℕ, zero, suc, ◌+◌, ◌*◌, ◌/◌, min, ◌≡◌, List, [], ◌∷◌, ◌++◌, eqb, length, get_or, drop, if◌then◌else◌}
 use Rattle.tree.specs.declared.Plan.{Plan}
 use Rattle.tree.specs.declared.Sheet.{Sheet}
-use Rattle.tree.specs.Search.{if◌then◌else◌}
 use Rattle.tree.specs.Calls.{Call, open_line, close_line, Answer, booked, done, refused}
 use Rattle.tree.specs.Lists.{Entry, calls_of}
 use Rattle.tree.specs.Demand3.{Demand3}

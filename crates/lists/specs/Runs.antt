@@ -1,9 +1,8 @@
 -- What the functions of this crate promise of a plan record, the order bytes and the lent answer bytes.
 -- Assumes nothing.
-use Rattle.std.specs.Prelude.{ℕ, ◌*◌, ◌≤◌, ◌≡◌, Bool, true, List, ◌++◌, length, drop}
+use Rattle.std.specs.Prelude.{ℕ, ◌*◌, ◌≤◌, ◌≡◌, Bool, true, List, ◌++◌, length, drop, if◌then◌else◌}
 use Rattle.std.proofs.Math.Option.{Option, none, some}
 use Rattle.tree.specs.declared.Plan.{Plan}
-use Rattle.tree.specs.Search.{if◌then◌else◌}
 use Rattle.tree.specs.Tree.{Tree}
 use Rattle.tree.specs.Calls.{Answer, booked, done, refused}
 use Rattle.tree.specs.Record.{legal, tree_of, record_of}

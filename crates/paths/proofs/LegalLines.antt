@@ -1,5 +1,6 @@
 -- Legality line by line, and what a legal record says of each line and of each two.
 -- Assumes nothing.
+use Rattle.std.specs.Prelude.{if◌then◌else◌}
 use Prim.Native.Nat.{ℕ, ◌<◌}
 use native.Mathlib.Omega.{arith}
 use mathlib.Core.Path.{◌≡◌, refl, sym, ◌∙◌}
@@ -7,7 +8,7 @@ use mathlib.Core.Bool.{Bool, true, false, ◌&&◌, or-true, and-true, and-eq-tr
 use mathlib.Core.List.{List, [], ◌∷◌}
 use lib.ListN.{length}
 use Rattle.tree.specs.declared.Row.{Row}
-use Rattle.tree.specs.Search.{if◌then◌else◌, all_below}
+use Rattle.tree.specs.Search.{all_below}
 use Rattle.tree.specs.Tree.{product}
 use Rattle.tree.specs.Record.{path_at, alone, rows_in_range, path_in_range, rest_unused, no_rows, parts, together, legal}
 use Rattle.paths.specs.declared.Checked.TheVariants.{Rows, Fault}

@@ -1,5 +1,6 @@
 -- The invariant of a loop that searches for the smallest number that passes a test, and a law of one that collects them (crate tree, specs/Search.antt).
 -- Assumes nothing.
+use Rattle.std.specs.Prelude.{if◌then◌else◌}
 use Prim.Native.Nat.{ℕ, ◌+◌, ◌<◌, ◌≤◌}
 use native.Mathlib.Omega.{arith}
 use native.Mathlib.Nat.{lt_of_lt_of_le}
@@ -9,7 +10,7 @@ use mathlib.Core.Bool.{Bool, true, false, ◌||◌, true≢false}
 use mathlib.Core.Option.{Option, none, some}
 use lib.Dec.{ltb}
 use borrow.Author.Tests.{ltb-true, ltb-false}
-use Rattle.tree.specs.Search.{if◌then◌else◌, found, or_else, first, smallest, some_below}
+use Rattle.tree.specs.Search.{found, or_else, first, smallest, some_below}
 use Rattle.tree.proofs.Searching.{smallest_some, smallest_none, some_below_true, some_below_false, some_below_at, some_below_none}
 use Rattle.paths.proofs.AllBelow.{SoFar}
 

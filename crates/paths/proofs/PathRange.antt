@@ -1,5 +1,6 @@
 -- The check of a path: the invariant of `check_rows`'s loop, and the path of a line with a root of weight 1 to itself.
 -- Assumes nothing.
+use Rattle.std.specs.Prelude.{if◌then◌else◌}
 use Prim.Native.Nat.{ℕ, suc, ◌+◌, ◌*◌, ◌<◌, ◌≤◌, zero-le}
 use native.Mathlib.Omega.{arith}
 use native.Mathlib.Nat.{lt_of_lt_of_le, mul-le-mul_left, mul_assoc, mul-one, one-mul, zero-add}
@@ -11,7 +12,6 @@ use lib.Dec.{leb}
 use lib.ListN.{length}
 use borrow.Author.Tests.{lt-ltb, le-ltb, le-leb, lt-leb, eq-eqb, ne_eqb}
 use Rattle.tree.specs.declared.Row.{Row}
-use Rattle.tree.specs.Search.{if◌then◌else◌}
 use Rattle.tree.specs.Tree.{product}
 use Rattle.tree.specs.Record.{row_at, path_at, rows_in_range, alone, path_in_range}
 use Rattle.paths.specs.declared.Checked.{Checked}

@@ -1,6 +1,7 @@
 -- The record with a node split on the lines below n (`split_lines`, specs/Rules.antt), by blocks: those lines are split where they go through
 -- the node, the others are as they were.
 -- Assumes nothing.
+use Rattle.std.specs.Prelude.{if◌then◌else◌}
 use Prim.Native.Nat.{ℕ, zero, suc, ◌≤◌, ◌<◌}
 use native.Mathlib.Omega.{arith}
 use mathlib.Core.Path.{◌≡◌, refl, sym, ◌∙◌, subst}
@@ -9,7 +10,6 @@ use mathlib.Core.Bool.{Bool, true, false}
 use mathlib.Core.List.{List}
 use lib.ListN.{length}
 use Rattle.tree.specs.declared.Row.{Row}
-use Rattle.tree.specs.Search.{if◌then◌else◌}
 use Rattle.tree.specs.Asking.{rows_11}
 use Rattle.tree.specs.Record.{path_at, numbers}
 use Rattle.tree.proofs.Searching.{last_or_below}

@@ -1,8 +1,8 @@
 -- What the lookup of a line and the check of a path answer, by the path (crate tree, specs/Record.antt).
 -- Assumes nothing.
-use Rattle.std.specs.Prelude.{ℕ, Bool, ◌&&◌, List, [], ◌∷◌, leb, length}
+use Rattle.std.specs.Prelude.{ℕ, Bool, ◌&&◌, List, [], ◌∷◌, leb, length, if◌then◌else◌}
 use Rattle.tree.specs.declared.Row.{Row}
-use Rattle.tree.specs.Search.{if◌then◌else◌, all_below}
+use Rattle.tree.specs.Search.{all_below}
 use Rattle.tree.specs.Tree.{product}
 use Rattle.tree.specs.Record.{path_at, rows_in_range, path_in_range, rest_unused, together}
 use Rattle.paths.specs.declared.Found.{Found}

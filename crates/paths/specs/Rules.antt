@@ -1,11 +1,11 @@
 -- The rules as the code follows them, over the paths of the lines. Nothing here has to be believed: that these are the rules
 -- over the tree is proved (crate bridge).
 -- Assumes nothing.
-use Rattle.std.specs.Prelude.{ℕ, zero, suc, ◌+◌, ◌*◌, ◌/◌, ◌%◌, Bool, true, false, not, ◌&&◌, List, [], ◌∷◌, ◌++◌, eqb, ltb, length, get_or, take, drop}
+use Rattle.std.specs.Prelude.{ℕ, zero, suc, ◌+◌, ◌*◌, ◌/◌, ◌%◌, Bool, true, false, not, ◌&&◌, List, [], ◌∷◌, ◌++◌, eqb, ltb, length, get_or, take, drop, if◌then◌else◌}
 use Rattle.std.proofs.Math.Option.{Option, none, some, map}
 use Rattle.tree.specs.declared.Row.{Row}
 use Rattle.tree.specs.Numbers.{divides}
-use Rattle.tree.specs.Search.{if◌then◌else◌, smallest, some_below, count_below}
+use Rattle.tree.specs.Search.{smallest, some_below, count_below}
 use Rattle.tree.specs.Tree.{row, product, sum, Place}
 use Rattle.tree.specs.Opening.{divisor, before}
 use Rattle.tree.specs.Asking.{rows_11}

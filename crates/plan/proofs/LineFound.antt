@@ -1,12 +1,12 @@
 -- What the lookup of a line says of the record: a line that is found stands in a tree; where none is found, it is closed or the record is no tree.
 -- Assumes nothing.
+use Rattle.std.specs.Prelude.{if◌then◌else◌}
 use Prim.Native.Nat.{ℕ}
 use native.Mathlib.Omega.{arith}
 use mathlib.Core.Path.{◌≡◌, refl}
 use mathlib.Core.Bool.{Bool, true, false}
 use mathlib.Core.List.{List}
 use mathlib.Core.Logic.{◌⊎◌, inl, inr}
-use Rattle.tree.specs.Search.{if◌then◌else◌}
 use Rattle.tree.specs.Record.{path_at, legal}
 use Rattle.paths.specs.declared.Found.TheVariants.{At, Nothing}
 use Rattle.paths.specs.Answers.{lookup}

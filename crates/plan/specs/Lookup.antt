@@ -1,7 +1,6 @@
 -- What the lookup of a line finds in a record that need not be a tree.
 -- Assumes nothing.
-use Rattle.std.specs.Prelude.{ℕ, List}
-use Rattle.tree.specs.Search.{if◌then◌else◌}
+use Rattle.std.specs.Prelude.{ℕ, List, if◌then◌else◌}
 use Rattle.tree.specs.Record.{path_at, legal}
 use Rattle.paths.specs.declared.Found.{Found}
 use Rattle.paths.specs.declared.Found.TheVariants.{Nothing}

@@ -1,8 +1,7 @@
 -- The walker (document 01, The walker; the rest by document 02, Ask 4): what a call on a place answers, and where it leaves the place.
 -- Assumes nothing.
-use Rattle.std.specs.Prelude.{ℕ, ◌+◌, ◌≡◌, Bool, ◌||◌, eqb}
+use Rattle.std.specs.Prelude.{ℕ, ◌+◌, ◌≡◌, Bool, ◌||◌, eqb, if◌then◌else◌}
 use Rattle.std.proofs.Math.Option.{Option, none, some}
-use Rattle.tree.specs.Search.{if◌then◌else◌}
 use Rattle.tree.specs.Tree.{Tree}
 use Rattle.tree.specs.Asking.{owner, OwnerOrRest, owned_by, idle_for, owner_or_rest}
 use Rattle.tree.specs.Calls.{Outcome, gives, refuses}

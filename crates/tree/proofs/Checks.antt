@@ -1,5 +1,6 @@
 -- The checks of open and close (specs/Refusals.antt): what a call that passes them may count on, and what a refusal says.
 -- Assumes nothing.
+use Rattle.std.specs.Prelude.{if◌then◌else◌}
 use Prim.Native.Nat.{ℕ, ◌<◌, ◌≤◌}
 use native.Mathlib.Omega.{arith}
 use mathlib.Core.Path.{◌≡◌, refl}
@@ -8,7 +9,7 @@ use mathlib.Core.List.{List, [], ◌∷◌, ◌++◌}
 use mathlib.Core.Option.{Option, none, some, some-ne-none}
 use lib.Dec.{eqb, ltb}
 use borrow.Author.Tests.{eqb-false, ltb-false, lt-ltb, le-ltb, eq-eqb, ne_eqb}
-use Rattle.tree.specs.Search.{if◌then◌else◌, or_else}
+use Rattle.tree.specs.Search.{or_else}
 use Rattle.tree.specs.Tree.{Tree, is_open}
 use Rattle.tree.specs.Shape.{Legal}
 use Rattle.tree.specs.Refusals.{Check, refuse, first_refusal, line_above_63, period_out_of_range, no_room, earlier_checks, open_refusal, line_refusal}

@@ -1,5 +1,6 @@
 -- The search for the chosen candidate, `chosen` of specs/Opening.antt, finds the one place that is chosen, and finds none only where no node is a candidate.
 -- Assumes nothing.
+use Rattle.std.specs.Prelude.{if◌then◌else◌}
 use Prim.Native.Nat.{ℕ, zero, suc, ◌*◌, ◌/◌, ◌%◌, ◌<◌}
 use native.Mathlib.Nat.{one-mul, mul-one, mul_assoc, mod-lt, mod-add-div}
 use native.Mathlib.Omega.{arith}
@@ -8,7 +9,7 @@ use mathlib.Core.Bool.{Bool, true, false, false≢true, not-eq-not, and-false}
 use mathlib.Core.Logic.{inl, inr}
 use mathlib.Core.Option.{Option, none, some, map}
 use Rattle.tree.specs.Numbers.{divides}
-use Rattle.tree.specs.Search.{if◌then◌else◌, found}
+use Rattle.tree.specs.Search.{found}
 use Rattle.tree.specs.Tree.{Tree, nothing, line, node, Place, product, at_digits, at, way_by_digits, way, step}
 use Rattle.tree.specs.Opening.{free_class, candidate, candidate_at, NoCandidate, IsChosen, better, best_below, under, best, chosen}
 use Rattle.tree.proofs.Digits.{digit_low, digit_high}

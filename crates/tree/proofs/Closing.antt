@@ -1,5 +1,6 @@
 -- Closing a line (specs/Closing.antt): exactly that line goes, the tree stays legal, and the last line leaves the empty plan.
 -- Assumes nothing.
+use Rattle.std.specs.Prelude.{if◌then◌else◌}
 use Prim.Native.Nat.{ℕ, ◌+◌, ◌*◌, ◌<◌}
 use native.Mathlib.Omega.{arith}
 use native.Mathlib.Decide.{ℕ_discrete, dec_lt}
@@ -8,7 +9,7 @@ use mathlib.Core.Logic.{inl, inr}
 use mathlib.Core.Bool.{Bool, true, false, false≢true}
 use lib.Dec.{eqb}
 use borrow.Author.Tests.{eq-eqb, ne_eqb, eqb-false}
-use Rattle.tree.specs.Search.{if◌then◌else◌, some_below}
+use Rattle.tree.specs.Search.{some_below}
 use Rattle.tree.specs.Tree.{Tree, nothing, line, node, present, is_open}
 use Rattle.tree.specs.Standing.{Stands}
 use Rattle.tree.specs.Shape.{LegalUnder, Legal}

@@ -1,5 +1,6 @@
 -- Demand 3 over the definitions (specs/Demand3.antt): it holds of every list of opens and closes, with any arguments, that the rules answer.
 -- Assumes nothing.
+use Rattle.std.specs.Prelude.{if◌then◌else◌}
 use Prim.Native.Nat.{ℕ, ◌<◌, ◌≤◌}
 use native.Mathlib.Omega.{arith}
 use mathlib.Core.Path.{◌≡◌, refl, sym, ◌∙◌, ap}
@@ -9,7 +10,7 @@ use mathlib.Core.List.{List}
 use mathlib.Core.Option.{Option, none, some}
 use lib.ListN.{length}
 use borrow.Author.Tests.{not-true}
-use Rattle.tree.specs.Search.{if◌then◌else◌, found}
+use Rattle.tree.specs.Search.{found}
 use Rattle.tree.specs.Tree.{Tree, nothing, present, is_open, path, path_of, Place}
 use Rattle.tree.specs.Opening.{chosen, NoCandidate, start_given}
 use Rattle.tree.specs.Asking.{owner}

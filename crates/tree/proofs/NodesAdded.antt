@@ -1,6 +1,7 @@
 -- How many nodes an open adds (specs/Trial.antt): those of the split, where the chosen node is split, and the newcomer's, where it has one.
 -- So an open never leaves fewer nodes than there were.
 -- Assumes nothing.
+use Rattle.std.specs.Prelude.{if◌then◌else◌}
 use Prim.Native.Nat.{ℕ, zero, suc, ◌+◌, ◌*◌, ◌/◌, ◌%◌, ◌<◌, ◌≤◌}
 use native.Mathlib.Omega.{arith}
 use native.Mathlib.Decide.{dec_lt}
@@ -10,7 +11,7 @@ use mathlib.Core.Bool.{Bool, true, false, not}
 use mathlib.Core.Option.{Option, none, some}
 use lib.Dec.{eqb, ltb}
 use borrow.Author.Tests.{lt-ltb, le-ltb}
-use Rattle.tree.specs.Search.{if◌then◌else◌, total_below, count_below}
+use Rattle.tree.specs.Search.{total_below, count_below}
 use Rattle.tree.specs.Tree.{Tree, nothing, line, node, present, product, Place, at_digits, at, way_by_digits, way, step, nodes}
 use Rattle.tree.specs.Shape.{Legal}
 use Rattle.tree.specs.Opening.{divisor, free, put, one_edge, group, split, newcomer, booking, book_by_digits, class_at, book_into, chosen, opened}

@@ -1,5 +1,6 @@
 -- Laws of the searches and lists below a bound (specs/Search.antt).
 -- Assumes nothing.
+use Rattle.std.specs.Prelude.{if◌then◌else◌}
 use Prim.Native.Nat.{ℕ, zero, suc, ◌+◌, ◌<◌}
 use native.Mathlib.Omega.{arith}
 use native.Mathlib.Nat.{eq-or-lt_of_le, le_of_suc-le-suc}
@@ -12,7 +13,7 @@ use mathlib.Core.Option.{Option, none, some, some-ne-none, none-ne-some}
 use lib.ListN.{length, get_or, length-append, get_or-append}
 use lib.Seq.{get_or_at}
 use borrow.Author.Tests.{not-true, not-false}
-use Rattle.tree.specs.Search.{if◌then◌else◌, found, or_else, first, each_below, smallest, some_below, all_below}
+use Rattle.tree.specs.Search.{found, or_else, first, each_below, smallest, some_below, all_below}
 
 -- what is below suc n is n or below n
 pub last_or_below : (i n : ℕ) → i < suc n → (i ≡ n) ⊎ (i < n)

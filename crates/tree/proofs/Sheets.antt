@@ -1,12 +1,13 @@
 -- The sheet adds up (specs/Sheet.antt), in every legal tree.
 -- Assumes nothing.
+use Rattle.std.specs.Prelude.{if◌then◌else◌}
 use Prim.Native.Nat.{ℕ, ◌+◌, ◌<◌}
 use native.Mathlib.Omega.{arith}
 use mathlib.Core.Path.{◌≡◌, refl, sym, ◌∙◌}
 use mathlib.Core.Bool.{Bool, true, false, true≢false, not-eq-not, not}
 use mathlib.Core.Option.{Option, none, some}
 use lib.ListN.{replicate}
-use Rattle.tree.specs.Search.{if◌then◌else◌, found, each_below, count_below}
+use Rattle.tree.specs.Search.{found, each_below, count_below}
 use Rattle.tree.specs.Tree.{Tree, nothing, path, is_open}
 use Rattle.tree.specs.Shape.{Legal}
 use Rattle.tree.specs.Asking.{owner, is_line, owns, owned, turns}

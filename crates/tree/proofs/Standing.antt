@@ -1,5 +1,6 @@
 -- Where a line stands (specs/Standing.antt): by its path, once, with one period and one start, the start below the period.
 -- Assumes nothing.
+use Rattle.std.specs.Prelude.{if◌then◌else◌}
 use Prim.Native.Nat.{ℕ, ◌+◌, ◌*◌, ◌<◌}
 use native.Mathlib.Omega.{arith}
 use native.Mathlib.Decide.{dec_lt}
@@ -11,7 +12,7 @@ use mathlib.Core.Option.{Option, none, some, some-ne-none, none-ne-some, map-eq-
 use lib.Dec.{eqb}
 use borrow.Author.Tests.{eqb-true, eq-eqb}
 use Rattle.tree.specs.declared.Row.{Row}
-use Rattle.tree.specs.Search.{if◌then◌else◌, found}
+use Rattle.tree.specs.Search.{found}
 use Rattle.tree.specs.Tree.{Tree, nothing, line, node, row, product, sum_from, sum, path, is_open, path_of, period_of, start_of}
 use Rattle.tree.specs.Standing.{Stands}
 use Rattle.tree.specs.Shape.{Edges}

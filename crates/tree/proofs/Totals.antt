@@ -1,5 +1,6 @@
 -- Laws of sums below a bound (specs/Search.antt).
 -- Assumes nothing.
+use Rattle.std.specs.Prelude.{if◌then◌else◌}
 use Prim.Native.Nat.{ℕ, zero, suc, ◌+◌, ◌*◌, ◌<◌, ◌≤◌}
 use native.Mathlib.Omega.{arith}
 use native.Mathlib.Nat.{suc-mul, add-zero, add-suc, add_comm, mul-zero, mul-suc}
@@ -10,7 +11,7 @@ use mathlib.Core.Logic.{inl, inr}
 use mathlib.Core.Bool.{Bool, true, false, ◌||◌, or-false}
 use lib.Dec.{eqb}
 use borrow.Author.Tests.{eq-eqb, ne_eqb}
-use Rattle.tree.specs.Search.{if◌then◌else◌, total_below, count_below}
+use Rattle.tree.specs.Search.{total_below, count_below}
 use Rattle.tree.proofs.Searching.{last_or_below}
 
 -- n numbers that count at most b each

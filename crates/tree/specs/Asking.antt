@@ -1,9 +1,9 @@
 -- Asking the plan (document 01, Asking the plan; turns by document 02, Ask 1, and the rest by Ask 4).
 -- Assumes nothing.
-use Rattle.std.specs.Prelude.{ℕ, ◌+◌, ◌*◌, ◌/◌, ◌%◌, ◌<◌, ◌≡◌, Bool, true, false, List, [], ◌∷◌, ◌++◌, eqb, take, replicate}
+use Rattle.std.specs.Prelude.{ℕ, ◌+◌, ◌*◌, ◌/◌, ◌%◌, ◌<◌, ◌≡◌, Bool, true, false, List, [], ◌∷◌, ◌++◌, eqb, take, replicate, if◌then◌else◌}
 use Rattle.std.proofs.Math.Option.{Option, none, some, get_or}
 use Rattle.tree.specs.declared.Row.{Row}
-use Rattle.tree.specs.Search.{if◌then◌else◌, found, smallest, count_below}
+use Rattle.tree.specs.Search.{found, smallest, count_below}
 use Rattle.tree.specs.Tree.{Tree, nothing, line, node, present, row, path_of, period_of, start_of, Place, way}
 
 -- (Asking the plan, 1, 2) Owner: at a node of weight w the round selects edge t mod w, and t div w goes on below it. No line found is idle.

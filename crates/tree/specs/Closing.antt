@@ -1,7 +1,7 @@
 -- Closing a line (document 01, Closing a line).
 -- Assumes nothing.
-use Rattle.std.specs.Prelude.{ℕ, eqb}
-use Rattle.tree.specs.Search.{if◌then◌else◌, some_below}
+use Rattle.std.specs.Prelude.{ℕ, eqb, if◌then◌else◌}
+use Rattle.tree.specs.Search.{some_below}
 use Rattle.tree.specs.Tree.{Tree, nothing, line, node, present}
 
 -- (Closing a line, 1, 2) A node with these edges, or nothing where none is present.

@@ -1,8 +1,7 @@
 -- The lists of demand 3: the ledger and the reference tree (document 01, The lists of demand 3).
 -- Assumes nothing.
-use Rattle.std.specs.Prelude.{ℕ, ◌%◌, ◌≡◌, List, [], ◌∷◌, eqb}
+use Rattle.std.specs.Prelude.{ℕ, ◌%◌, ◌≡◌, List, [], ◌∷◌, eqb, if◌then◌else◌}
 use Rattle.std.proofs.Math.Option.{Option, none, some}
-use Rattle.tree.specs.Search.{if◌then◌else◌}
 use Rattle.tree.specs.Tree.{Tree, nothing}
 use Rattle.tree.specs.Calls.{Call, open_line, close_line, Answer, booked, done, refused, answer, after}
 

@@ -1,9 +1,9 @@
 -- Opening a line (document 01, Opening a line).
 -- Assumes nothing.
-use Rattle.std.specs.Prelude.{ℕ, zero, suc, ◌+◌, ◌*◌, ◌/◌, ◌%◌, ◌≡◌, Bool, true, false, not, ◌&&◌, eqb, ltb}
+use Rattle.std.specs.Prelude.{ℕ, zero, suc, ◌+◌, ◌*◌, ◌/◌, ◌%◌, ◌≡◌, Bool, true, false, not, ◌&&◌, eqb, ltb, if◌then◌else◌}
 use Rattle.std.proofs.Math.Option.{Option, none, some, map, get_or}
 use Rattle.tree.specs.Numbers.{divides, gcd}
-use Rattle.tree.specs.Search.{if◌then◌else◌, found, smallest, some_below}
+use Rattle.tree.specs.Search.{found, smallest, some_below}
 use Rattle.tree.specs.Tree.{Tree, nothing, line, node, present, Place, at, step}
 
 -- Candidates

@@ -1,10 +1,10 @@
 -- The program's record of a plan, the tree that it stands for, and the record of a tree.
 -- Row k of line L is the pair of numbers at 22·L + 2·k. A line's path is its rows up to the first of weight 0; a closed line has none.
 -- Assumes nothing.
-use Rattle.std.specs.Prelude.{ℕ, zero, suc, ◌+◌, ◌*◌, Bool, true, false, not, ◌&&◌, ◌||◌, List, [], ◌∷◌, ◌++◌, eqb, ltb, leb, length, get_or}
+use Rattle.std.specs.Prelude.{ℕ, zero, suc, ◌+◌, ◌*◌, Bool, true, false, not, ◌&&◌, ◌||◌, List, [], ◌∷◌, ◌++◌, eqb, ltb, leb, length, get_or, if◌then◌else◌}
 use Rattle.tree.specs.declared.Row.{Row}
 use Rattle.tree.specs.declared.Plan.{Plan}
-use Rattle.tree.specs.Search.{if◌then◌else◌, all_below}
+use Rattle.tree.specs.Search.{all_below}
 use Rattle.tree.specs.Tree.{Tree, nothing, line, node, row, product, path_of}
 use Rattle.tree.specs.Opening.{put}
 use Rattle.tree.specs.Asking.{rows_11}

@@ -1,14 +1,9 @@
--- Choices by a test, and searches, lists and sums below a bound, from 0 upward.
+-- Searches, lists and sums below a bound, from 0 upward.
 -- Assumes nothing.
-use Rattle.std.specs.Prelude.{ℕ, zero, suc, ◌+◌, Bool, true, false, not, List, [], ◌∷◌, ◌++◌}
+use Rattle.std.specs.Prelude.{ℕ, zero, suc, ◌+◌, Bool, true, false, not, List, [], ◌∷◌, ◌++◌, if◌then◌else◌}
 use Rattle.std.proofs.Math.Option.{Option, none, some}
 
 module _ {A : Type 0} where
-  infixr 10 if◌then◌else◌
-  abbrev pub if◌then◌else◌ : Bool → A → A → A
-  if◌then◌else◌ true x y = x
-  if◌then◌else◌ false x y = y
-
   unfoldable pub found : Option A → Bool
   found none = false
   found (some a) = true

@@ -1,8 +1,8 @@
 -- The beamtime sheet (document 02, Ask 5): whose the N rounds are that begin with a. They are whole numbers, so that none is too large.
 -- Assumes nothing.
-use Rattle.std.specs.Prelude.{ℕ, ◌+◌, not, get_or}
+use Rattle.std.specs.Prelude.{ℕ, ◌+◌, not, get_or, if◌then◌else◌}
 use Rattle.tree.specs.declared.Sheet.{Sheet}
-use Rattle.tree.specs.Search.{if◌then◌else◌, each_below, total_below, count_below}
+use Rattle.tree.specs.Search.{each_below, total_below, count_below}
 use Rattle.tree.specs.Tree.{Tree, is_open}
 use Rattle.tree.specs.Asking.{turns, owned}
 

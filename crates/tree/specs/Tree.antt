@@ -1,9 +1,9 @@
 -- The scheduling tree (document 01, The tree), and how a line and a node are found in it.
 -- Assumes nothing.
-use Rattle.std.specs.Prelude.{ℕ, zero, suc, ◌+◌, ◌*◌, ◌/◌, ◌%◌, Bool, true, false, List, [], ◌∷◌, eqb}
+use Rattle.std.specs.Prelude.{ℕ, zero, suc, ◌+◌, ◌*◌, ◌/◌, ◌%◌, Bool, true, false, List, [], ◌∷◌, eqb, if◌then◌else◌}
 use Rattle.std.proofs.Math.Option.{Option, none, some, map, get_or}
 use Rattle.tree.specs.declared.Row.{Row}
-use Rattle.tree.specs.Search.{if◌then◌else◌, found, first, total_below}
+use Rattle.tree.specs.Search.{found, first, total_below}
 
 -- (The tree, 1, 4, 5) Definition 6.1: a node has a weight and edges, and under an edge stands a node or a line.
 -- `f e` is what stands under edge e of `node w f`, and is `nothing` where that edge is absent. The empty plan is `nothing` too.

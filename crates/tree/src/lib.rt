@@ -1,8 +1,7 @@
 // The types of document 01's plan, and one function over them. The definitions that give them their meaning are in specs/.
 #![tactic(auto)]
 
-ghost use Rattle.std.specs.Prelude.{◌≡◌, ltb};
-ghost use Rattle.tree.specs.Search.{if◌then◌else◌};
+ghost use Rattle.std.specs.Prelude.{◌≡◌, ltb, if◌then◌else◌};
 
 // One row of a path: a node's weight, and the edge taken there.
 #[derive(Clone, Copy)]

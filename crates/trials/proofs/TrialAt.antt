@@ -1,5 +1,6 @@
 -- The figures of `trial_at` are those of the definition over paths (`trial_at` of crate paths, specs/Rules.antt).
 -- Assumes nothing.
+use Rattle.std.specs.Prelude.{if◌then◌else◌}
 use Prim.Native.Nat.{ℕ, zero, suc, ◌+◌, ◌*◌, ◌/◌, ◌<◌, ◌≤◌}
 use native.Mathlib.Omega.{arith}
 use native.Mathlib.Nat.{zero-add, zero-mul, mul-zero, suc-mul}
@@ -9,7 +10,6 @@ use mathlib.Core.List.{List}
 use lib.Dec.{eqb, ltb}
 use lib.ListN.{length}
 use Rattle.tree.specs.declared.Row.{Row}
-use Rattle.tree.specs.Search.{if◌then◌else◌}
 use Rattle.tree.specs.Trial.{Trial}
 use Rattle.tree.specs.Record.{row_at, path_at}
 use Rattle.paths.specs.Rules.{Family, class_taken, classes_taken, own_nodes, Spot, trial_at}
