@@ -151,7 +151,7 @@ module _ (rows : List ℕ) (is_legal : legal rows ≡ true) (n : ℕ) where
   module _ {least k : ℕ} (all : Nearest rows n least k) (past : 64 ≤ k) where
     closed_where_none : least ≡ 4095 → AllClosed rows
     unfolding AllClosed
-    closed_where_none None_found M below = by_rows (no_rows (path_at rows M)) refl
+    closed_where_none none_found M below = by_rows (no_rows (path_at rows M)) refl
       where
         by_rows : (b : Bool) → no_rows (path_at rows M) ≡ b → b ≡ true
         by_rows true closed = refl
@@ -160,7 +160,7 @@ module _ (rows : List ℕ) (is_legal : legal rows ≡ true) (n : ℕ) where
     -- no line is open: the rest is 0
     pub no_turn_rest : least ≡ 4095 → 0 ≡ rest n t
     unfolding tree_of_rows rest present
-    no_turn_rest None_found = sym (ap (rest n) (all_closed_nothing (plan_of rows) is_legal (closed_where_none None_found)))
+    no_turn_rest none_found = sym (ap (rest n) (all_closed_nothing (plan_of rows) is_legal (closed_where_none none_found)))
 
     -- some line is: the nearest turn is the rest
     pub nearest_turn_rest : (least ≡ 4095 → ⊥) → least ≡ rest n t
@@ -168,7 +168,7 @@ module _ (rows : List ℕ) (is_legal : legal rows ≡ true) (n : ℕ) where
     nearest_turn_rest some_found = one_rest n t least (rest n t) is_rest (rest_is_rest t (legal_on_record rows) n)
       where
         next : TurnOf rows n least k
-        next = elim all.reached [ inl None_found ↦ absurd (some_found None_found) | inr x ↦ x ]
+        next = elim all.reached [ inl none_found ↦ absurd (some_found none_found) | inr x ↦ x ]
 
         number_below : next.number < 64
         number_below = omega (arith, next.number_below, all.within)

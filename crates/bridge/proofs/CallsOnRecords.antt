@@ -39,10 +39,10 @@ carried_on c rows after h same = record { answer_is = rw h; rows_are = rw h same
 -- a line is open, and no node is a candidate
 pub no_room_on : (rows : List ℕ) (p M : ℕ) → legal rows ≡ true → M < 64 → no_rows (path_at rows M) ≡ false → best_of_lines (path_at rows) p 64 ≡ none → no_room p (tree_of_rows rows) ≡ true
 unfolding no_room found
-no_room_on rows p M is_legal below there None_found =
+no_room_on rows p M is_legal below there none_found =
     let t = tree_of_rows rows in
     let here = stands_present M t _ _ (open_stands M t (open_on_record rows is_legal M below ∙ ap not there)) in
-    let none_chosen = search_none t (legal_on_record rows) (path_at rows) (paths_on_record rows is_legal) p None_found in
+    let none_chosen = search_none t (legal_on_record rows) (path_at rows) (paths_on_record rows is_legal) p none_found in
     rw (here, none_chosen)
 
 module _ (rows : List ℕ) (is_legal : legal rows ≡ true) (long : length rows ≡ 1408) where

@@ -47,9 +47,9 @@ module _ {rows : List ℕ} {end : ℕ} (lines : EndOfLines rows end) where
   root_found is_0 = rw is_0 at lines.closed_from
 
   pub no_room_found : (p : ℕ) → legal rows ≡ true → (end ≡ 0 → ⊥) → best_of_lines (path_at rows) p 64 ≡ none → no_room p (tree_of_rows rows) ≡ true
-  no_room_found p is_legal some_open None_found =
+  no_room_found p is_legal some_open none_found =
       let below = lines.closed_from.within in
-      no_room_on rows p (end - 1) is_legal (omega arith) (lines.last_open (end - 1) (omega arith)) None_found
+      no_room_on rows p (end - 1) is_legal (omega arith) (lines.last_open (end - 1) (omega arith)) none_found
 
 pub open_again : (rows : List ℕ) (L p : ℕ) → legal rows ≡ true → L ≤ 63 → period_out_of_range p ≡ false → no_rows (path_at rows L) ≡ false → open_refusal L p (tree_of_rows rows) ≡ some 3
 open_again rows L p is_legal number inside there =

@@ -7,11 +7,11 @@ use Rattle.tree.specs.Calls.{Answer}
 use Rattle.orders.specs.Field.{field}
 use Rattle.lists.specs.Lists.{answer_word, high_byte, low_byte}
 
-module _ (word : ℕ) (a : Answer) (is_IsWord : word ≡ answer_word a) where
+module _ (word : ℕ) (a : Answer) (is_word : word ≡ answer_word a) where
   pub high_is : word / 256 % 256 ≡ high_byte a
   unfolding high_byte field
-  high_is = ap (λ (x : ℕ). x / 256 % 256) is_IsWord
+  high_is = ap (λ (x : ℕ). x / 256 % 256) is_word
 
   pub low_is : word % 256 ≡ low_byte a
   unfolding low_byte field
-  low_is = ap (λ (x : ℕ). x % 256) (is_IsWord ∙ sym (div-one (answer_word a)))
+  low_is = ap (λ (x : ℕ). x % 256) (is_word ∙ sym (div-one (answer_word a)))

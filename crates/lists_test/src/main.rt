@@ -147,13 +147,13 @@ fn print_lent(rt: &impl Print, lent: &[u8], orders: usize) {
     }
 }
 
-fn print_result(rt: &impl Print, length: usize, room: usize, res: u8) {
+fn print_result(rt: &impl Print, length: usize, room: usize, number: u8) {
     text(rt, b"list ");
     decimal(rt, length as u64);
     text(rt, b" ");
     decimal(rt, room as u64);
     text(rt, b" ");
-    decimal(rt, res as u64);
+    decimal(rt, number as u64);
     text(rt, b"\n");
 }
 

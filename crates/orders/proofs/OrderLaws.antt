@@ -42,23 +42,23 @@ order_of_bytes n small =
 
 -- Fields
 
-module _ (k L p : ℕ) (kind_small : k < 2 ^ 2) (Line_small : L < 2 ^ 6) (period_small : p < 2 ^ 12) where
+module _ (k L p : ℕ) (kind_small : k < 2 ^ 2) (line_small : L < 2 ^ 6) (period_small : p < 2 ^ 12) where
   pub order_with_below : order_with k L p < 2 ^ 24
   unfolding order_with
   order_with_below =
-      joined_below 20 4 _ _ (joined_below 8 12 _ _ (joined_below 2 6 _ _ kind_small Line_small) period_small) (pow_pos 4)
+      joined_below 20 4 _ _ (joined_below 8 12 _ _ (joined_below 2 6 _ _ kind_small line_small) period_small) (pow_pos 4)
 
   pub kind_with : kind (order_with k L p) ≡ k
   unfolding kind order_with
   kind_with =
       higher_of_joined 2 18 4 (joined 12 (joined 6 k L) p) 0 (pow_pos 4) ∙ higher_of_joined 2 6 12 (joined 6 k L) p period_small
-      ∙ higher_of_joined 2 0 6 k L Line_small ∙ lowest_of_small 2 k kind_small
+      ∙ higher_of_joined 2 0 6 k L line_small ∙ lowest_of_small 2 k kind_small
 
   pub line_with : line (order_with k L p) ≡ L
   unfolding line order_with
   line_with =
       higher_of_joined 6 12 4 (joined 12 (joined 6 k L) p) 0 (pow_pos 4) ∙ higher_of_joined 6 0 12 (joined 6 k L) p period_small
-      ∙ lowest_of_joined 6 k L Line_small
+      ∙ lowest_of_joined 6 k L line_small
 
   pub period_with : period (order_with k L p) ≡ p
   unfolding period order_with

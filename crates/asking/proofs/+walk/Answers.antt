@@ -40,7 +40,7 @@ weight-requires t c = ((visits_within _ c.requires).1, omega (arith, within_path
 pub remainder_ahead-requires : goal.remainder_ahead-requires
 remainder_ahead-requires t c =
     let step_above_0 = step_positive _ (legal_on_record _) c.requires in
-    let weight_positive = weight_above_0 _ _ (visits_within _ c.requires).2 c.weight.ensures in
+    let weight_positive = weight_above_0 _ _ (omega (arith, (visits_within _ c.requires).2)) c.weight.ensures in
     (mul-pos step_above_0 weight_positive, factors_below _ _ c.requires.step_at_most (omega arith))
 
 pub nonzero_div-edge : goal.nonzero_div-edge
@@ -49,7 +49,7 @@ nonzero_div-edge t c = step_positive _ (legal_on_record _) c.requires
 pub overflow_cast-edge : goal.overflow_cast-edge
 overflow_cast-edge t c =
     let step_above_0 = step_positive _ (legal_on_record _) c.requires in
-    let weight_positive = weight_above_0 _ _ (visits_within _ c.requires).2 c.weight.ensures in
+    let weight_positive = weight_above_0 _ _ (omega (arith, (visits_within _ c.requires).2)) c.weight.ensures in
     let small = edge_below (c.args.round + c.args.ahead) c.args.step c.weight.result step_above_0 weight_positive (omega arith) in
     record { fits = rw c.remainder_ahead.ensures small }
 
@@ -60,14 +60,14 @@ pub returns-in_default : goal.returns-in_default
 returns-in_default t c =
     let step_above_0 = step_positive _ (legal_on_record _) c.requires in
     let on_path = (visits_within _ c.requires).2 in
-    let weight_positive = weight_above_0 _ _ on_path c.weight.ensures in
+    let weight_positive = weight_above_0 _ _ (omega (arith, on_path)) c.weight.ensures in
     let found = selected _ _ _ _ _ _ _ _ step_above_0 weight_positive c.remainder_ahead.ensures (sym (ap line_through c.in_default.is) ∙ c.line_under-under.ensures) in
     sym (walk_idle _ _ _ _ _ c.if-left-eq0.false on_path c.weight.ensures found)
 
 pub ends_below-requires : goal.ends_below-requires
 ends_below-requires t c =
     let step_above_0 = step_positive _ (legal_on_record _) c.requires in
-    let weight_positive = weight_above_0 _ _ (visits_within _ c.requires).2 c.weight.ensures in
+    let weight_positive = weight_above_0 _ _ (omega (arith, (visits_within _ c.requires).2)) c.weight.ensures in
     let found = selected _ _ _ _ _ _ _ _ step_above_0 weight_positive c.remainder_ahead.ensures (sym (ap line_through c.in-Line.is) ∙ c.line_under-under.ensures) in
     line_under_within _ _ _ _ _ found
 
@@ -75,7 +75,7 @@ pub returns-then-ends_below : goal.returns-then-ends_below
 returns-then-ends_below t c =
     let step_above_0 = step_positive _ (legal_on_record _) c.requires in
     let on_path = (visits_within _ c.requires).2 in
-    let weight_positive = weight_above_0 _ _ on_path c.weight.ensures in
+    let weight_positive = weight_above_0 _ _ (omega (arith, on_path)) c.weight.ensures in
     let found = selected _ _ _ _ _ _ _ _ step_above_0 weight_positive c.remainder_ahead.ensures (sym (ap line_through c.in-Line.is) ∙ c.line_under-under.ensures) in
     sym (walk_to_line _ _ _ _ _ c.if-left-eq0.false on_path c.weight.ensures _ found (sym c.ends_below.ensures ∙ c.if-ends_below.true))
 
@@ -85,7 +85,7 @@ overflow_add-level t c = omega (arith, within_path _ _ (visits_within _ c.requir
 pub walk-requires : goal.walk-requires
 walk-requires t c =
     let step_above_0 = step_positive _ (legal_on_record _) c.requires in
-    let weight_positive = weight_above_0 _ _ (visits_within _ c.requires).2 c.weight.ensures in
+    let weight_positive = weight_above_0 _ _ (omega (arith, (visits_within _ c.requires).2)) c.weight.ensures in
     let found = selected _ _ _ _ _ _ _ _ step_above_0 weight_positive c.remainder_ahead.ensures (sym (ap line_through c.in-Line.is) ∙ c.line_under-under.ensures) in
     (omega (arith, c.if-left-eq0.false), visits_child _ c.requires c.weight.ensures found (sym c.ends_below.ensures ∙ c.if-ends_below.false))
 
@@ -93,6 +93,6 @@ pub returns : goal.returns
 returns t c =
     let step_above_0 = step_positive _ (legal_on_record _) c.requires in
     let on_path = (visits_within _ c.requires).2 in
-    let weight_positive = weight_above_0 _ _ on_path c.weight.ensures in
+    let weight_positive = weight_above_0 _ _ (omega (arith, on_path)) c.weight.ensures in
     let found = selected _ _ _ _ _ _ _ _ step_above_0 weight_positive c.remainder_ahead.ensures (sym (ap line_through c.in-Line.is) ∙ c.line_under-under.ensures) in
     c.walk.ensures ∙ ap (walk_on_paths _ _ _ _) (sym (div-div-eq-div-mul _ _ _)) ∙ sym (walk_to_node _ _ _ _ _ c.if-left-eq0.false on_path c.weight.ensures _ found (sym c.ends_below.ensures ∙ c.if-ends_below.false))
