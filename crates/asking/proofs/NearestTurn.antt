@@ -8,7 +8,7 @@ use mathlib.Core.Path.{◌≡◌, refl, sym, ◌∙◌, ap}
 use mathlib.Core.Logic.{◌⊎◌, inl, inr}
 use mathlib.Core.Bool.{Bool, true, false, true≢false, not}
 use mathlib.Core.List.{List}
-use mathlib.Core.Option.{Option, none, some}
+use Rattle.std.specs.Prelude.{Option, None, Some}
 use borrow.Author.Count.{below_more}
 use borrow.Author.Tests.{not-true}
 use Rattle.tree.specs.declared.Row.{Row}
@@ -122,7 +122,7 @@ module _ (rows : List ℕ) (is_legal : legal rows ≡ true) (n : ℕ) where
       rw (paths_on_record rows is_legal M below) (open_stands M t (open_on_record rows is_legal M below ∙ ap not there))
 
   -- its next turn is a round that it owns, before the longest period is over
-  owned_at_turn : (M : ℕ) → M < 64 → no_rows (path_at rows M) ≡ false → owner (n + until rows n M) t ≡ some M
+  owned_at_turn : (M : ℕ) → M < 64 → no_rows (path_at rows M) ≡ false → owner (n + until rows n M) t ≡ Some M
   owned_at_turn M below there =
       let stands = stands_there M below there in
       stands_walk M _ t _ _ stands (until_fits _ _ (start_below_period M t _ _ stands) n)
@@ -134,7 +134,7 @@ module _ (rows : List ℕ) (is_legal : legal rows ≡ true) (n : ℕ) where
       omega (arith, until_below (product (path_at rows M)) (sum (path_at rows M)) n (omega arith), stands_period M t _ _ (legal_on_record rows) stands)
 
   -- and it owns no round before
-  no_turn_before : (M k : ℕ) → owner (n + k) t ≡ some M → (M < 64) × (no_rows (path_at rows M) ≡ false) × (until rows n M ≤ k)
+  no_turn_before : (M k : ℕ) → owner (n + k) t ≡ Some M → (M < 64) × (no_rows (path_at rows M) ≡ false) × (until rows n M ≤ k)
   unfolding period_of start_of
   no_turn_before M k owned_now =
       let proper = legal_proper t (legal_on_record rows) in
@@ -173,9 +173,9 @@ module _ (rows : List ℕ) (is_legal : legal rows ≡ true) (n : ℕ) where
         number_below : next.number < 64
         number_below = omega (arith, next.number_below, all.within)
 
-        idle_before : (i : ℕ) → i < least → (o : Option ℕ) → owner (n + i) t ≡ o → o ≡ none
-        idle_before i less none e = refl
-        idle_before i less (some M) e =
+        idle_before : (i : ℕ) → i < least → (o : Option ℕ) → owner (n + i) t ≡ o → o ≡ None
+        idle_before i less None e = refl
+        idle_before i less (Some M) e =
             let x = no_turn_before M i e in
             absurd (omega (arith, x.2, all.none_nearer M (omega (arith, x.0)) x.1))
 

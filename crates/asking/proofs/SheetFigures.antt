@@ -6,7 +6,7 @@ use native.Mathlib.Omega.{arith}
 use mathlib.Core.Path.{◌≡◌, refl, sym, ◌∙◌, ap}
 use mathlib.Core.Bool.{true, false, not}
 use mathlib.Core.List.{List}
-use mathlib.Core.Option.{Option}
+use Rattle.std.specs.Prelude.{Option}
 use Rattle.tree.specs.Search.{found, total_below, count_below}
 use Rattle.tree.specs.Tree.{Tree, product, sum}
 use Rattle.tree.specs.Asking.{owned}

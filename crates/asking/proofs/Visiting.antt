@@ -7,7 +7,7 @@ use native.Mathlib.Decide.{dec_lt}
 use mathlib.Core.Path.{◌≡◌, refl, sym, ◌∙◌, ap, subst}
 use mathlib.Core.Bool.{true, false, not-eq-not}
 use mathlib.Core.List.{List}
-use mathlib.Core.Option.{none, some}
+use Rattle.std.specs.Prelude.{None, Some}
 use lib.Dec.{eqb}
 use lib.ListN.{length, take}
 use Rattle.tree.specs.declared.Row.{Row}
@@ -52,7 +52,7 @@ module _ (t : Tree) (is_legal : Legal t) {L l m n : ℕ} (here : Visits t L l m 
 
 -- only a legal record has a node to visit, on the path of one of the 64 lines
 module _ (rows : List ℕ) {L l m n : ℕ} (here : Visits (tree_of_rows rows) L l m n) where
-  stands_somewhere : path L (tree_of_rows rows) ≡ none → ⊥
+  stands_somewhere : path L (tree_of_rows rows) ≡ None → ⊥
   unfolding path_of
   stands_somewhere absent = let none_there : l < 0 = rw absent at here.level_below in omega arith
 
@@ -129,7 +129,7 @@ module _ (rows : List ℕ) (is_legal : legal rows ≡ true) where
 
 -- the node at level l of line M's path is visited, w was read as its weight, and line N was found under the selected edge
 module _ (rows : List ℕ) {M l m n : ℕ} (here : Visits (tree_of_rows rows) M l m n) {w : ℕ} (read : w ≡ (row_at rows M l).weight)
-    {N : ℕ} (under : line_under (path_at rows) (path_at rows M) l (n / m % w) ≡ some N) where
+    {N : ℕ} (under : line_under (path_at rows) (path_at rows M) l (n / m % w) ≡ Some N) where
   abbrev given : (legal rows ≡ true) × (M < 64) × (l < length (path_at rows M))
   given = visits_within rows here
 
@@ -139,13 +139,13 @@ module _ (rows : List ℕ) {M l m n : ℕ} (here : Visits (tree_of_rows rows) M 
   takes : (same_node l (path_at rows M) (path_at rows N) ≡ true) × ((row_of l (path_at rows N)).edge ≡ n / m % w)
   takes = line_under_takes (path_at rows) (path_at rows M) l (n / m % w) N under
 
-  stands : (K : ℕ) → K < 64 → l < length (path_at rows K) → path K (tree_of_rows rows) ≡ some (path_at rows K)
+  stands : (K : ℕ) → K < 64 → l < length (path_at rows K) → path K (tree_of_rows rows) ≡ Some (path_at rows K)
   stands K = family_path (tree_of_rows rows) (path_at rows) (paths_on_record rows given.0) K l
 
-  abbrev M_stands : path M (tree_of_rows rows) ≡ some (path_at rows M)
+  abbrev M_stands : path M (tree_of_rows rows) ≡ Some (path_at rows M)
   M_stands = stands M given.1 given.2
 
-  abbrev N_stands : path N (tree_of_rows rows) ≡ some (path_at rows N)
+  abbrev N_stands : path N (tree_of_rows rows) ≡ Some (path_at rows N)
   N_stands = stands N within.0 within.1
 
   -- N's path has the same rows above the node, so that the same numbers are carried

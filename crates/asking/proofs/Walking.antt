@@ -6,7 +6,7 @@ use native.Mathlib.Numerals.{add-one}
 use mathlib.Core.Path.{◌≡◌}
 use mathlib.Core.Bool.{true, false, and-eq-true_iff}
 use mathlib.Core.List.{List}
-use mathlib.Core.Option.{Option, none, some}
+use Rattle.std.specs.Prelude.{Option, None, Some}
 use lib.Dec.{eqb}
 use lib.ListN.{length}
 use borrow.Author.Tests.{eqb-true, eqb-false, not-true}
@@ -20,7 +20,7 @@ use Rattle.paths.proofs.RowLaws.{some_rows}
 use Rattle.asking.specs.Answers.{first_open}
 
 -- line N was found under edge e of the node at level l of path ps
-module _ (family : Family) (ps : List Row) (l e N : ℕ) (under : line_under family ps l e ≡ some N) where
+module _ (family : Family) (ps : List Row) (l e N : ℕ) (under : line_under family ps l e ≡ Some N) where
   -- its path goes through the node and takes that edge
   pub line_under_takes : (same_node l ps (family N) ≡ true) × ((row_of l (family N)).edge ≡ e)
   unfolding line_under
@@ -42,7 +42,7 @@ pub weight_above_0 : (rows : List ℕ) (M : ℕ) {l w : ℕ} → l < length (pat
 weight_above_0 rows M below read = omega (arith, weight_in_path rows M below)
 
 -- no nodes are left to go through
-pub walk_over : (family : Family) (left M l n : ℕ) → left ≡ 0 → walk_on_paths family left M l n ≡ none
+pub walk_over : (family : Family) (left M l n : ℕ) → left ≡ 0 → walk_on_paths family left M l n ≡ None
 unfolding walk_on_paths
 walk_over family left M l n over = rw over
 
@@ -54,13 +54,13 @@ module _ (rows : List ℕ) (left M l n : ℕ) (goes_on : left ≡ 0 → ⊥) (be
   selected : {o : Option ℕ} → line_under (path_at rows) (path_at rows M) l (n % w) ≡ o → line_under (path_at rows) (path_at rows M) l (n % (row_of l (path_at rows M)).weight) ≡ o
   selected under = rw (weight_read rows M below read) under
 
-  pub walk_idle : line_under (path_at rows) (path_at rows M) l (n % w) ≡ none → walk_on_paths (path_at rows) left M l n ≡ none
+  pub walk_idle : line_under (path_at rows) (path_at rows M) l (n % w) ≡ None → walk_on_paths (path_at rows) left M l n ≡ None
   unfolding walk_on_paths
   walk_idle under = rw (one_node, selected under, walk_on_paths)
 
   -- line N was found under the selected edge
-  module _ (N : ℕ) (under : line_under (path_at rows) (path_at rows M) l (n % w) ≡ some N) where
-    pub walk_to_line : eqb (length (path_at rows N)) (suc l) ≡ true → walk_on_paths (path_at rows) left M l n ≡ some N
+  module _ (N : ℕ) (under : line_under (path_at rows) (path_at rows M) l (n % w) ≡ Some N) where
+    pub walk_to_line : eqb (length (path_at rows N)) (suc l) ≡ true → walk_on_paths (path_at rows) left M l n ≡ Some N
     unfolding walk_on_paths
     walk_to_line ends = rw (one_node, selected under, walk_on_paths, ends)
 
@@ -71,16 +71,16 @@ module _ (rows : List ℕ) (left M l n : ℕ) (goes_on : left ≡ 0 → ⊥) (be
 -- From the root
 
 -- an open line's path has a root
-pub first_open_within : (family : Family) (M : ℕ) → first_open family ≡ some M → (M < 64) × (0 < length (family M))
+pub first_open_within : (family : Family) (M : ℕ) → first_open family ≡ Some M → (M < 64) × (0 < length (family M))
 unfolding first_open
 first_open_within family M h =
     let found = smallest_some 64 _ M h in
     (found.in_range, some_rows (family M) (not-true _ found.passes))
 
-pub owner_idle : (family : Family) (n : ℕ) → first_open family ≡ none → owner_on_paths family n ≡ none
+pub owner_idle : (family : Family) (n : ℕ) → first_open family ≡ None → owner_on_paths family n ≡ None
 unfolding owner_on_paths first_open
 owner_idle family n h = rw (h, owner_on_paths)
 
-pub owner_by_walk : (family : Family) (n M : ℕ) → first_open family ≡ some M → owner_on_paths family n ≡ walk_on_paths family 11 M 0 n
+pub owner_by_walk : (family : Family) (n M : ℕ) → first_open family ≡ Some M → owner_on_paths family n ≡ walk_on_paths family 11 M 0 n
 unfolding owner_on_paths first_open
 owner_by_walk family n M h = rw (h, owner_on_paths)

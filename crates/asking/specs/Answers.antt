@@ -1,7 +1,7 @@
 -- What the answers of this crate's functions stand for, over the paths of the lines (crate paths, specs/Rules.antt).
 -- Assumes nothing.
 use Rattle.std.specs.Prelude.{ℕ, Bool, not, ◌&&◌, List, eqb}
-use Rattle.std.proofs.Math.Option.{Option, none, some}
+use Rattle.std.specs.Prelude.{Option, None, Some}
 use Rattle.tree.specs.declared.Row.{Row}
 use Rattle.tree.specs.Search.{smallest}
 use Rattle.tree.specs.Record.{no_rows}
@@ -13,13 +13,13 @@ use Rattle.asking.specs.declared.Owner.TheVariants as owner
 
 -- the line that was found, if one was
 abbrev pub line_through : Through → Option ℕ
-line_through (through.Line n) = some n
-line_through through.Nothing = none
+line_through (through.Line n) = Some n
+line_through through.Nothing = None
 
 -- the line that owns the round, none where it is idle
 abbrev pub owner_answered : Owner → Option ℕ
-owner_answered (owner.Line n) = some n
-owner_answered owner.Idle = none
+owner_answered (owner.Line n) = Some n
+owner_answered owner.Idle = None
 
 -- line N takes edge e of the node at level l of path ps
 unfoldable pub takes_edge : Family → List Row → ℕ → ℕ → ℕ → Bool

@@ -6,7 +6,7 @@ use native.Mathlib.Omega.{arith}
 use mathlib.Core.Path.{◌≡◌, refl}
 use mathlib.Core.Bool.{Bool, true, false}
 use mathlib.Core.List.{List, [], ◌∷◌}
-use mathlib.Core.Option.{Option, none, some}
+use Rattle.std.specs.Prelude.{Option, None, Some}
 use lib.Dec.{eqb}
 use borrow.Author.Tests.{eqb-true, eqb-false}
 use Rattle.tree.specs.Tree.{Tree}
@@ -43,17 +43,17 @@ refused_worded k m small = record { result_small = omega arith; start_same = by_
 
 called_worded : (k L p : ℕ) (t : Tree) (o : Option ℕ) → Small o → Worded k (answer_unless o (reply (call_of k L p) t))
 unfolding Small answer_unless call_of reply result_field start start_word
-called_worded k L p t (some m) small = refused_worded k m small
-called_worded zero L p t none small = record { result_small = omega arith; start_same = start_of_opened 0 0 _ refl refl }
-called_worded (suc k) L p t none small = record { result_small = omega arith; start_same = start_of_other_kind (suc k) 0 0 (λ e. omega arith) }
+called_worded k L p t (Some m) small = refused_worded k m small
+called_worded zero L p t None small = record { result_small = omega arith; start_same = start_of_opened 0 0 _ refl refl }
+called_worded (suc k) L p t None small = record { result_small = omega arith; start_same = start_of_other_kind (suc k) 0 0 (λ e. omega arith) }
 
 order_worded : (n : ℕ) (t : Tree) → Worded (kind n) (order_answer n t)
 unfolding Small order_answer answer_read answer reading gives_unless
 order_worded n t = by_reading (reading_refusal n) (reading_small n)
   where
     by_reading : (o : Option ℕ) → Small o → Worded (kind n) (answer_read (gives_unless o (call_of (kind n) (line n) (period n))) t)
-    by_reading (some m) small = refused_worded (kind n) m small
-    by_reading none small = called_worded (kind n) (line n) (period n) t _ (refusal_small (call_of (kind n) (line n) (period n)) t)
+    by_reading (Some m) small = refused_worded (kind n) m small
+    by_reading None small = called_worded (kind n) (line n) (period n) t _ (refusal_small (call_of (kind n) (line n) (period n)) t)
 
 pub record Printable (k : ℕ) (a : Answer) : Type 0 where
   pub result_small : result_field a < 10
@@ -72,17 +72,17 @@ order_printable n t is_legal =
 
 after_legal : (c : Call) (t : Tree) → Legal t → (o : Option ℕ) → refusal c t ≡ o → Legal (tree_unless o t (carried_out c t))
 unfolding refusal tree_unless carried_out
-after_legal c t is_legal (some n) e = is_legal
-after_legal (open_line L p) t is_legal none e = opened_legal L p t (open_may L p t is_legal e)
-after_legal (close_line L) t is_legal none e = closed_legal L t is_legal
+after_legal c t is_legal (Some n) e = is_legal
+after_legal (open_line L p) t is_legal None e = opened_legal L p t (open_may L p t is_legal e)
+after_legal (close_line L) t is_legal None e = closed_legal L t is_legal
 
 order_after_legal : (n : ℕ) (t : Tree) → Legal t → Legal (order_after n t)
 unfolding order_after after_read after reading gives_unless
 order_after_legal n t is_legal = by_reading (reading_refusal n)
   where
     by_reading : (o : Option ℕ) → Legal (after_read (gives_unless o (call_of (kind n) (line n) (period n))) t)
-    by_reading (some m) = is_legal
-    by_reading none = after_legal (call_of (kind n) (line n) (period n)) t is_legal _ refl
+    by_reading (Some m) = is_legal
+    by_reading None = after_legal (call_of (kind n) (line n) (period n)) t is_legal _ refl
 
 -- each order has an answer that can be printed
 unfoldable pub AllPrintable : List ℕ → List Answer → Type 0

@@ -6,7 +6,7 @@ use native.Mathlib.Omega.{arith}
 use mathlib.Core.Path.{◌≡◌, refl, sym, ◌∙◌, ap}
 use mathlib.Core.Bool.{Bool, true, false}
 use mathlib.Core.List.{List, [], ◌∷◌, ◌++◌}
-use mathlib.Core.Option.{Option, none, some}
+use Rattle.std.specs.Prelude.{Option, None, Some}
 use lib.ListN.{length, take, drop, replicate, length-append}
 use lib.Seq.{take-append_seam, take_at}
 use lib.Dec.{ltb}
@@ -38,7 +38,7 @@ answered_length t [] = refl
 answered_length t (n ∷ ns) = let rest = answered_length (order_after n t) ns in omega arith
 
 -- with room for 21,845 answers a list is refused by its length or not at all
-refused_by_length : (n : ℕ) → (b : Bool) → length_refused n ≡ b → list_refusal n 43690 ≡ (if b then some 7 else none)
+refused_by_length : (n : ℕ) → (b : Bool) → length_refused n ≡ b → list_refusal n 43690 ≡ (if b then Some 7 else None)
 unfolding room_refused
 refused_by_length n true e = unfit_length n 43690 e
 refused_by_length n false e =
@@ -46,24 +46,24 @@ refused_by_length n false e =
     checks_passed n 43690 e (le-ltb 43690 (2 * (n / 3)) (omega arith))
 
 module _ (plan : Plan) (input lent : List ℕ) (after : Plan) (answers : List ℕ) (room : 43690 ≡ length lent) where
-  refusal_here : (o : Option ℕ) → ListRan plan input lent o after answers → (b : Bool) → length_refused (length input) ≡ b → o ≡ (if b then some 7 else none)
+  refusal_here : (o : Option ℕ) → ListRan plan input lent o after answers → (b : Bool) → length_refused (length input) ≡ b → o ≡ (if b then Some 7 else None)
   refusal_here o ran b e = ran.refusal_is ∙ ap (list_refusal (length input)) (sym room) ∙ refused_by_length (length input) b e
 
-  pub ran_refused : (m : ℕ) → ListRan plan input lent (some m) after answers → length_refused (length input) ≡ true
+  pub ran_refused : (m : ℕ) → ListRan plan input lent (Some m) after answers → length_refused (length input) ≡ true
   ran_refused m ran = by_length (length_refused (length input)) refl
     where
       by_length : (b : Bool) → length_refused (length input) ≡ b → b ≡ true
       by_length true e = refl
-      by_length false e = absurd (let none_is : some m ≡ none = refusal_here (some m) ran false e in let z : ◌≡◌ {A = ℕ} 0 1 = cc in omega arith)
+      by_length false e = absurd (let none_is : Some m ≡ None = refusal_here (Some m) ran false e in let z : ◌≡◌ {A = ℕ} 0 1 = cc in omega arith)
 
-  pub ran_done : ListRan plan input lent none after answers → length_refused (length input) ≡ false
+  pub ran_done : ListRan plan input lent None after answers → length_refused (length input) ≡ false
   ran_done ran = by_length (length_refused (length input)) refl
     where
       by_length : (b : Bool) → length_refused (length input) ≡ b → b ≡ false
       by_length false e = refl
-      by_length true e = absurd (let some_is : none ≡ some 7 = refusal_here none ran true e in let z : ◌≡◌ {A = ℕ} 0 1 = cc in omega arith)
+      by_length true e = absurd (let some_is : None ≡ Some 7 = refusal_here None ran true e in let z : ◌≡◌ {A = ℕ} 0 1 = cc in omega arith)
 
-  pub ran_answered : tree_of plan ≡ nothing → ListRan plan input lent none after answers → length answers ≡ length lent → (text : List ℕ) (at : ℕ) → at + 502435 ≤ length text → Answered input answers text at
+  pub ran_answered : tree_of plan ≡ nothing → ListRan plan input lent None after answers → length answers ≡ length lent → (text : List ℕ) (at : ℕ) → at + 502435 ≤ length text → Answered input answers text at
   unfolding bytes_after_list bytes_after
   ran_answered empty ran same text at fits =
       let fit = fit_length (length input) (ran_done ran) in

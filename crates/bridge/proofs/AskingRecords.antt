@@ -5,7 +5,7 @@ use native.Mathlib.Omega.{arith}
 use mathlib.Core.Path.{◌≡◌, ◌∙◌, ap}
 use mathlib.Core.Bool.{Bool, true, false, not}
 use mathlib.Core.List.{List}
-use mathlib.Core.Option.{none, some}
+use Rattle.std.specs.Prelude.{None, Some}
 use Rattle.tree.specs.declared.Plan.{Plan}
 use Rattle.tree.specs.Search.{found}
 use Rattle.tree.specs.Tree.{Tree, nothing, product, sum, path, is_open, period_of, start_of}
@@ -24,11 +24,11 @@ use Rattle.bridge.proofs.WalkOnPaths.{owner_is}
 
 -- A call that asks and is refused
 
-shown_refused : (L n : ℕ) (t : Tree) → line_refusal L t ≡ some n → show_outcome L t ≡ refuses n
+shown_refused : (L n : ℕ) (t : Tree) → line_refusal L t ≡ Some n → show_outcome L t ≡ refuses n
 unfolding show_outcome gives_unless
 shown_refused L n t h = rw h
 
-turns_refused : (L a N n : ℕ) (t : Tree) → line_refusal L t ≡ some n → turns_outcome L a N t ≡ refuses n
+turns_refused : (L a N n : ℕ) (t : Tree) → line_refusal L t ≡ Some n → turns_outcome L a N t ≡ refuses n
 unfolding turns_outcome gives_unless
 turns_refused L a N n t h = rw h
 
@@ -69,10 +69,10 @@ module _ (rows : List ℕ) where
       pub open_by_rows : (b : Bool) → no_rows (path_at rows L) ≡ b → is_open L (tree_of_rows rows) ≡ not b
       open_by_rows b rows_are = open_on_record rows is_legal L (omega arith) ∙ ap not rows_are
 
-      allowed : no_rows (path_at rows L) ≡ false → line_refusal L (tree_of_rows rows) ≡ none
+      allowed : no_rows (path_at rows L) ≡ false → line_refusal L (tree_of_rows rows) ≡ None
       allowed there = close_allowed L (tree_of_rows rows) number (open_by_rows false there)
 
-      refused : no_rows (path_at rows L) ≡ true → line_refusal L (tree_of_rows rows) ≡ some 4
+      refused : no_rows (path_at rows L) ≡ true → line_refusal L (tree_of_rows rows) ≡ Some 4
       refused absent = line_refused_4 L (tree_of_rows rows) number (open_by_rows true absent)
 
       pub shown_on_record : no_rows (path_at rows L) ≡ false →

@@ -6,7 +6,7 @@ use native.Mathlib.Omega.{arith}
 use mathlib.Core.Path.{◌≡◌, refl, sym, ◌∙◌, ap, subst}
 use mathlib.Core.Bool.{Bool, true, false, true≢false}
 use mathlib.Core.List.{List, []}
-use mathlib.Core.Option.{Option, none, some, get_or}
+use Rattle.std.specs.Prelude.{Option, None, Some, unwrap_or}
 use lib.Dec.{ltb}
 use lib.ListN.{length, take}
 use Rattle.tree.specs.declared.Row.{Row}
@@ -48,19 +48,19 @@ module _ (plan : Plan) (L p : ℕ) (s : Spot) (is_legal : legal plan.rows ≡ tr
   abbrev pub path_after : List Row → List Row
   path_after rs = if same_node s.level ps rs then (if ltb s.divisor weight then split_path s.level s.divisor rs else rs) else rs
 
-  line_path : path s.line t ≡ some ps
+  line_path : path s.line t ≡ Some ps
   line_path = family_path t (path_at plan.rows) (tree_of_paths plan is_legal) s.line s.level found_spot.line_below found_spot.level_below
 
   -- what a line through the node becomes, by the spot's own divisor
-  pub through_path : (M : ℕ) (rs : List Row) → path M t ≡ some rs → same_node s.level ps rs ≡ true →
-      path M (opened L p t) ≡ some (if ltb s.divisor weight then split_path s.level s.divisor rs else rs)
+  pub through_path : (M : ℕ) (rs : List Row) → path M t ≡ Some rs → same_node s.level ps rs ≡ true →
+      path M (opened L p t) ≡ Some (if ltb s.divisor weight then split_path s.level s.divisor rs else rs)
   unfolding place_of
   through_path M rs e h =
       let through = (same_node_exactly s.line M t s.level ps rs line_path e found_spot.level_below).0 h in
-      subst (λ (d : ℕ). path M (opened L p t) ≡ some (if ltb d weight then split_path s.level d rs else rs)) (sym found_spot.divisor_is)
+      subst (λ (d : ℕ). path M (opened L p t) ≡ Some (if ltb d weight then split_path s.level d rs else rs)) (sym found_spot.divisor_is)
       (opened_path_through L p t (place_of s) weight found_spot.node.0 may found_spot.chosen_is found_spot.node.1 M rs e (through.0 ∙ sym found_spot.rows_above) through.1)
 
-  beside_path : (M : ℕ) (rs : List Row) → path M t ≡ some rs → same_node s.level ps rs ≡ false → path M (opened L p t) ≡ some rs
+  beside_path : (M : ℕ) (rs : List Row) → path M t ≡ Some rs → same_node s.level ps rs ≡ false → path M (opened L p t) ≡ Some rs
   unfolding place_of
   beside_path M rs e h =
       opened_path_beside L p t (place_of s) weight found_spot.node.0 may found_spot.chosen_is found_spot.node.1 M rs e
@@ -72,34 +72,34 @@ module _ (plan : Plan) (L p : ℕ) (s : Spot) (is_legal : legal plan.rows ≡ tr
   path_after_beside : (rs : List Row) → same_node s.level ps rs ≡ false → path_after rs ≡ rs
   path_after_beside rs h = rw h
 
-  open_path_after : (M : ℕ) (rs : List Row) → path M t ≡ some rs → path M (opened L p t) ≡ some (path_after rs)
+  open_path_after : (M : ℕ) (rs : List Row) → path M t ≡ Some rs → path M (opened L p t) ≡ Some (path_after rs)
   open_path_after M rs e = by_test (same_node s.level ps rs) refl
     where
-      by_test : (b : Bool) → same_node s.level ps rs ≡ b → path M (opened L p t) ≡ some (path_after rs)
-      by_test true h = through_path M rs e h ∙ ap some (sym (path_after_through rs h))
-      by_test false h = beside_path M rs e h ∙ ap some (sym (path_after_beside rs h))
+      by_test : (b : Bool) → same_node s.level ps rs ≡ b → path M (opened L p t) ≡ Some (path_after rs)
+      by_test true h = through_path M rs e h ∙ ap Some (sym (path_after_through rs h))
+      by_test false h = beside_path M rs e h ∙ ap Some (sym (path_after_beside rs h))
 
   other_path : (M : ℕ) → M < 64 → (M ≡ L → ⊥) → path_of M (opened L p t) ≡ path_after (path_at plan.rows M)
   unfolding path_of
   other_path M below other = by_path (path M t) refl
     where
-      by_path : (o : Option (List Row)) → path M t ≡ o → get_or (path M (opened L p t)) [] ≡ path_after (path_at plan.rows M)
-      by_path none e =
-          let empty : path_at plan.rows M ≡ [] = tree_of_paths plan is_legal M below ∙ ap (λ (o : Option (List Row)). get_or o []) e in
-          ap (λ (o : Option (List Row)). get_or o []) (opened_path_none L p t may M other e)
+      by_path : (o : Option (List Row)) → path M t ≡ o → unwrap_or (path M (opened L p t)) [] ≡ path_after (path_at plan.rows M)
+      by_path None e =
+          let empty : path_at plan.rows M ≡ [] = tree_of_paths plan is_legal M below ∙ ap (λ (o : Option (List Row)). unwrap_or o []) e in
+          ap (λ (o : Option (List Row)). unwrap_or o []) (opened_path_none L p t may M other e)
           ∙ sym (ap path_after empty ∙ path_after_beside [] (same_node_none s.level ps))
-      by_path (some rs) e =
+      by_path (Some rs) e =
           let same = path_family t (path_at plan.rows) (tree_of_paths plan is_legal) M rs below e in
-          ap (λ (o : Option (List Row)). get_or o []) (open_path_after M rs e) ∙ ap path_after (sym same)
+          ap (λ (o : Option (List Row)). unwrap_or o []) (open_path_after M rs e) ∙ ap path_after (sym same)
 
-  pub new_line_path : path L (opened L p t) ≡ some (booked_path (take s.level ps) s.divisor s.class (p / (s.step * s.divisor)))
+  pub new_line_path : path L (opened L p t) ≡ Some (booked_path (take s.level ps) s.divisor s.class (p / (s.step * s.divisor)))
   new_line_path =
       let new = opened_path_new L p t (place_of s) weight found_spot.node.0 may found_spot.chosen_is found_spot.node.1 in
       new ∙ cc
 
   new_path : path_of L (opened L p t) ≡ booked_path (take s.level ps) s.divisor s.class (p / (s.step * s.divisor))
   unfolding path_of
-  new_path = ap (λ (o : Option (List Row)). get_or o []) new_line_path
+  new_path = ap (λ (o : Option (List Row)). unwrap_or o []) new_line_path
 
   -- the record before the new line is placed
   abbrev pub split_rows : List ℕ

@@ -6,7 +6,7 @@ use native.Mathlib.Omega.{arith}
 use mathlib.Core.Path.{◌≡◌, sym, ◌∙◌, ap, subst}
 use mathlib.Core.Bool.{Bool, true, false, not, ◌&&◌, and-false}
 use mathlib.Core.List.{List, [], ◌∷◌}
-use mathlib.Core.Option.{Option, none, some}
+use Rattle.std.specs.Prelude.{Option, None, Some}
 use lib.ListN.{length}
 use Rattle.tree.specs.Search.{found}
 use Rattle.tree.specs.Tree.{Tree, nothing, present, row, is_open, Place}
@@ -28,16 +28,16 @@ use Rattle.bridge.proofs.BookedRecord.{booked_record, booked_start}
 
 -- A call that is refused, and one that is not
 
-pub refused_on : (c : Call) (rows : List ℕ) (n : ℕ) → refusal c (tree_of_rows rows) ≡ some n → CarriedOut c rows rows (refused n)
+pub refused_on : (c : Call) (rows : List ℕ) (n : ℕ) → refusal c (tree_of_rows rows) ≡ Some n → CarriedOut c rows rows (refused n)
 unfolding answer answer_unless rows_after rows_unless
 refused_on c rows n h = record { answer_is = rw h; rows_are = rw h }
 
-carried_on : (c : Call) (rows after : List ℕ) → refusal c (tree_of_rows rows) ≡ none → after ≡ (record_of (carried_out c (tree_of_rows rows))).rows → CarriedOut c rows after (reply c (tree_of_rows rows))
+carried_on : (c : Call) (rows after : List ℕ) → refusal c (tree_of_rows rows) ≡ None → after ≡ (record_of (carried_out c (tree_of_rows rows))).rows → CarriedOut c rows after (reply c (tree_of_rows rows))
 unfolding answer answer_unless rows_after rows_unless
 carried_on c rows after h same = record { answer_is = rw h; rows_are = rw h same }
 
 -- a line is open, and no node is a candidate
-pub no_room_on : (rows : List ℕ) (p M : ℕ) → legal rows ≡ true → M < 64 → no_rows (path_at rows M) ≡ false → best_of_lines (path_at rows) p 64 ≡ none → no_room p (tree_of_rows rows) ≡ true
+pub no_room_on : (rows : List ℕ) (p M : ℕ) → legal rows ≡ true → M < 64 → no_rows (path_at rows M) ≡ false → best_of_lines (path_at rows) p 64 ≡ None → no_room p (tree_of_rows rows) ≡ true
 unfolding no_room found
 no_room_on rows p M is_legal below there none_found =
     let t = tree_of_rows rows in
@@ -65,7 +65,7 @@ module _ (rows : List ℕ) (is_legal : legal rows ≡ true) (long : length rows 
     not_open = open_on_record rows is_legal L (omega arith) ∙ ap not absent
 
     -- check 5 is the one that is left
-    last_check : open_refusal L p t ≡ (if no_room p t then some 5 else none)
+    last_check : open_refusal L p t ≡ (if no_room p t then Some 5 else None)
     last_check = open_last_check L p t number inside not_open
 
     module _ (closed : AllClosed rows) where
@@ -73,9 +73,9 @@ module _ (rows : List ℕ) (is_legal : legal rows ≡ true) (long : length rows 
       unfolding tree_of_rows
       empty = all_closed_nothing (record { rows = rows }) is_legal closed
 
-      pub first_not_refused : open_refusal L p t ≡ none
+      pub first_not_refused : open_refusal L p t ≡ None
       unfolding no_room present
-      first_not_refused = last_check ∙ ap (λ (x : Tree). if no_room p x then some 5 else none) empty
+      first_not_refused = last_check ∙ ap (λ (x : Tree). if no_room p x then Some 5 else None) empty
 
       pub open_first_on : 0 < p → CarriedOut (open_line L p) rows (set_line rows L (row p 0 ∷ [])) (booked 0)
       unfolding refusal reply carried_out tree_of_rows
@@ -84,7 +84,7 @@ module _ (rows : List ℕ) (is_legal : legal rows ≡ true) (long : length rows 
           (carried_on (open_line L p) rows (set_line rows L (row p 0 ∷ [])) first_not_refused
           (first_record (record { rows = rows }) L p (omega arith) positive is_legal long closed ∙ ap (λ (x : Tree). (record_of (opened L p x)).rows) (sym empty)))
 
-    module _ (s : Spot) (found_one : best_of_lines (path_at rows) p 64 ≡ some s) where
+    module _ (s : Spot) (found_one : best_of_lines (path_at rows) p 64 ≡ Some s) where
       pub spot_found : FoundSpot p t (path_at rows) s
       spot_found = search_some t (legal_on_record rows) (path_at rows) (paths_on_record rows is_legal) p s found_one
 
@@ -92,8 +92,8 @@ module _ (rows : List ℕ) (is_legal : legal rows ≡ true) (long : length rows 
       unfolding no_room found
       room_found = ap (λ (o : Option Place). present t && not (found o)) spot_found.chosen_is ∙ and-false (present t)
 
-      pub not_refused : open_refusal L p t ≡ none
-      not_refused = last_check ∙ ap (λ (b : Bool). if b then some 5 else none) room_found
+      pub not_refused : open_refusal L p t ≡ None
+      not_refused = last_check ∙ ap (λ (b : Bool). if b then Some 5 else None) room_found
 
       pub may_open : MayOpen L p t
       may_open = open_may L p t (legal_on_record rows) not_refused

@@ -4,7 +4,7 @@ use Prim.Native.Nat.{ℕ}
 use mathlib.Core.Path.{◌≡◌, refl}
 use mathlib.Core.Bool.{true}
 use mathlib.Core.List.{List}
-use mathlib.Core.Option.{Option, none, some}
+use Rattle.std.specs.Prelude.{Option, None, Some}
 use Rattle.tree.specs.Tree.{Tree, nothing}
 use Rattle.tree.specs.Shape.{Legal}
 use Rattle.tree.specs.Calls.{Call, open_line, close_line, Answer, refusal, carried_out, tree_unless, after}
@@ -17,7 +17,7 @@ use Rattle.bridge.proofs.TreeOfRecord.{legal_on_record}
 use Rattle.bridge.proofs.RecordRoundTrip.{record_legal, record_has_tree}
 
 -- the tree that a call leaves which is not refused is legal
-pub carried_out_legal : (c : Call) (t : Tree) → Legal t → refusal c t ≡ none → Legal (carried_out c t)
+pub carried_out_legal : (c : Call) (t : Tree) → Legal t → refusal c t ≡ None → Legal (carried_out c t)
 unfolding refusal carried_out
 carried_out_legal (open_line L p) t is_legal allowed = opened_legal L p t (open_may L p t is_legal allowed)
 carried_out_legal (close_line L) t is_legal allowed = closed_legal L t is_legal
@@ -40,5 +40,5 @@ carried_legal c before left a is_legal carried = rw carried.rows_are (by_refusal
 
     by_refusal : (o : Option ℕ) → refusal c t ≡ o →
         LegalWith (rows_unless o before (record_of (carried_out c t)).rows) (tree_unless o t (carried_out c t))
-    by_refusal (some n) e = record { is_legal = is_legal; tree_is = refl }
-    by_refusal none e = recorded (carried_out c t) (carried_out_legal c t (legal_on_record before) e)
+    by_refusal (Some n) e = record { is_legal = is_legal; tree_is = refl }
+    by_refusal None e = recorded (carried_out c t) (carried_out_legal c t (legal_on_record before) e)

@@ -7,7 +7,7 @@ use mathlib.Core.Path.{◌≡◌, refl, sym, ◌∙◌, ap, fun_ext}
 use mathlib.Core.Logic.{◌↔◌}
 use mathlib.Core.Bool.{Bool, true, false, not, ◌&&◌, and-eq-true_iff}
 use mathlib.Core.List.{List, []}
-use mathlib.Core.Option.{Option, none, some, map, get_or}
+use Rattle.std.specs.Prelude.{Option, None, Some, option_map, unwrap_or}
 use lib.Dec.{eqb}
 use lib.ListN.{length, take}
 use borrow.Author.Tests.{eqb-true, eq-eqb}
@@ -27,20 +27,20 @@ use Rattle.bridge.proofs.NodesOnPaths.{place_on, NodeOnPath, path_node, LineThro
 abbrev pub PathsOf : Tree → Family → Type 0
 PathsOf t family = (M : ℕ) → M < 64 → family M ≡ path_of M t
 
-pub path_family : (t : Tree) (family : Family) → PathsOf t family → (M : ℕ) (rs : List Row) → M < 64 → path M t ≡ some rs → family M ≡ rs
+pub path_family : (t : Tree) (family : Family) → PathsOf t family → (M : ℕ) (rs : List Row) → M < 64 → path M t ≡ Some rs → family M ≡ rs
 unfolding path_of
-path_family t family paths M rs below h = paths M below ∙ ap (λ o. get_or o []) h
+path_family t family paths M rs below h = paths M below ∙ ap (λ o. unwrap_or o []) h
 
-pub family_path : (t : Tree) (family : Family) → PathsOf t family → (M l : ℕ) → M < 64 → l < length (family M) → path M t ≡ some (family M)
+pub family_path : (t : Tree) (family : Family) → PathsOf t family → (M l : ℕ) → M < 64 → l < length (family M) → path M t ≡ Some (family M)
 unfolding path_of
 family_path t family paths M l below long = by_outcome (path M t) refl
   where
-    by_outcome : (o : Option (List Row)) → path M t ≡ o → path M t ≡ some (family M)
-    by_outcome none e =
-        let closed : family M ≡ [] = paths M below ∙ ap (λ o. get_or o []) e in
+    by_outcome : (o : Option (List Row)) → path M t ≡ o → path M t ≡ Some (family M)
+    by_outcome None e =
+        let closed : family M ≡ [] = paths M below ∙ ap (λ o. unwrap_or o []) e in
         let none_there : l < 0 = rw closed at long in
         absurd (omega arith)
-    by_outcome (some rs) e = e ∙ ap some (sym (path_family t family paths M rs below e))
+    by_outcome (Some rs) e = e ∙ ap Some (sym (path_family t family paths M rs below e))
 
 pub node_on_path : (t : Tree) (family : Family) → PathsOf t family → (M l : ℕ) → M < 64 → l < length (family M) → NodeOnPath M t l (family M)
 node_on_path t family paths M l below long = path_node M t l (family M) (family_path t family paths M l below long) long
@@ -58,10 +58,10 @@ spot_on p t M l rs =
       class = class_at p t a;
     }
 
-offer_if : (b : Bool) (spot : ℕ → Spot) (o : Option ℕ) → (if b then map spot o else none) ≡ (if b && found o then some (spot (get_or o 0)) else none)
+offer_if : (b : Bool) (spot : ℕ → Spot) (o : Option ℕ) → (if b then option_map spot o else None) ≡ (if b && found o then Some (spot (unwrap_or o 0)) else None)
 unfolding found
-offer_if true spot none = refl
-offer_if true spot (some i) = refl
+offer_if true spot None = refl
+offer_if true spot (Some i) = refl
 offer_if false spot o = refl
 
 module _ (t : Tree) (legal : Legal t) (family : Family) (paths : PathsOf t family) (M l : ℕ) (below : M < 64) (long : l < length (family M)) where
@@ -74,7 +74,7 @@ module _ (t : Tree) (legal : Legal t) (family : Family) (paths : PathsOf t famil
   abbrev place : Place
   place = place_on l (family M)
 
-  standing : path M t ≡ some (family M)
+  standing : path M t ≡ Some (family M)
   standing = family_path t family paths M l below long
 
   present_through : (e : ℕ) → e < weight → (present (here.edges e) ≡ true) ↔ LineThrough t place weight e
@@ -121,7 +121,7 @@ module _ (t : Tree) (legal : Legal t) (family : Family) (paths : PathsOf t famil
 
   -- Candidates
 
-  pub spot_at_is : (p : ℕ) → spot_at family p M l ≡ (if candidate_at p t place then some (spot_on p t M l (family M)) else none)
+  pub spot_at_is : (p : ℕ) → spot_at family p M l ≡ (if candidate_at p t place then Some (spot_on p t M l (family M)) else None)
   unfolding spot_at spot_with candidate_at candidate class_at step spot_on
   spot_at_is p =
       let m = product (take l (family M)) in

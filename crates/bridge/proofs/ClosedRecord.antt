@@ -4,7 +4,7 @@ use Prim.Native.Nat.{ℕ, ◌<◌}
 use mathlib.Core.Path.{◌≡◌, sym, ◌∙◌, ap}
 use mathlib.Core.Bool.{true}
 use mathlib.Core.List.{List, []}
-use mathlib.Core.Option.{Option, get_or}
+use Rattle.std.specs.Prelude.{Option, unwrap_or}
 use lib.ListN.{length}
 use Rattle.tree.specs.declared.Row.{Row}
 use Rattle.tree.specs.declared.Plan.{Plan}
@@ -36,9 +36,9 @@ pub closed_record : (plan : Plan) (L : ℕ) → L < 64 → legal plan.rows ≡ t
     set_line plan.rows L [] ≡ (record_of (closed L (tree_of plan))).rows
 unfolding path_of
 closed_record plan L below is_legal long =
-    set_line_record plan.rows L [] (closed L t) below long (ap (λ (o : Option (List Row)). get_or o []) (sym (closed_path_gone L t))) λ M M_below other.
+    set_line_record plan.rows L [] (closed L t) below long (ap (λ (o : Option (List Row)). unwrap_or o []) (sym (closed_path_gone L t))) λ M M_below other.
     block_of_tree plan M is_legal long M_below
-    ∙ ap (λ (o : Option (List Row)). numbers (rows_11 (get_or o []))) (sym (closed_path_other L M t (tree_of_legal plan) other))
+    ∙ ap (λ (o : Option (List Row)). numbers (rows_11 (unwrap_or o []))) (sym (closed_path_other L M t (tree_of_legal plan) other))
   where
     t : Tree
     t = tree_of plan

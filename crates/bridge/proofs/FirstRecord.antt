@@ -5,7 +5,7 @@ use native.Mathlib.Omega.{arith}
 use mathlib.Core.Path.{◌≡◌, refl, sym, ◌∙◌, ap}
 use mathlib.Core.Bool.{true}
 use mathlib.Core.List.{List, [], ◌∷◌}
-use mathlib.Core.Option.{Option, get_or}
+use Rattle.std.specs.Prelude.{Option, unwrap_or}
 use lib.ListN.{length}
 use Rattle.tree.specs.declared.Row.{Row}
 use Rattle.tree.specs.declared.Plan.{Plan}
@@ -36,10 +36,10 @@ pub first_record : (plan : Plan) (L p : ℕ) → L < 64 → 0 < p → legal plan
     set_line plan.rows L (row p 0 ∷ []) ≡ (record_of (opened L p nothing)).rows
 unfolding path_of AllClosed
 first_record plan L p below positive is_legal long closed =
-    set_line_record rows L (row p 0 ∷ []) (opened L p nothing) below long (ap (λ (o : Option (List Row)). get_or o []) (sym (opened_path_empty L p positive))) λ M M_below other.
+    set_line_record rows L (row p 0 ∷ []) (opened L p nothing) below long (ap (λ (o : Option (List Row)). unwrap_or o []) (sym (opened_path_empty L p positive))) λ M M_below other.
     legal_block rows M is_legal long M_below
     ∙ ap (λ (rs : List Row). numbers (rows_11 rs)) (no_rows_empty (path_at rows M) (closed M M_below))
-    ∙ ap (λ (o : Option (List Row)). numbers (rows_11 (get_or o []))) (sym (opened_path_empty_other L p M other))
+    ∙ ap (λ (o : Option (List Row)). numbers (rows_11 (unwrap_or o []))) (sym (opened_path_empty_other L p M other))
   where
     rows : List ℕ
     rows = plan.rows

@@ -7,7 +7,8 @@ use native.Mathlib.Decide.{ℕ_discrete, dec_lt}
 use mathlib.Core.Path.{◌≡◌, refl, sym, ◌∙◌, ap, subst}
 use mathlib.Core.Bool.{Bool, true, false}
 use mathlib.Core.List.{List}
-use mathlib.Core.Option.{Option, none, some, none-ne-some}
+use Rattle.std.specs.Prelude.{Option, None, Some}
+use Rattle.std.proofs.lemmas.Option.{none-some}
 use lib.Dec.{ltb}
 use borrow.Author.Tests.{ltb-true, lt-ltb, le-ltb}
 use Rattle.tree.specs.declared.Row.{Row}
@@ -25,26 +26,26 @@ use Rattle.bridge.proofs.StandLegal.{stand_keeps_legal}
 -- The path that a line has for the rows that the record holds for it, and the same for the lines below n
 
 abbrev pub path_held : List Row → Option (List Row)
-path_held ps = if no_rows ps then none else some ps
+path_held ps = if no_rows ps then None else Some ps
 
 abbrev held_below : List ℕ → ℕ → ℕ → Option (List Row)
-held_below rows n M = if ltb M n then path_held (path_at rows M) else none
+held_below rows n M = if ltb M n then path_held (path_at rows M) else None
 
-held_some : (ps qs : List Row) → path_held ps ≡ some qs → (no_rows ps ≡ false) × (ps ≡ qs)
+held_some : (ps qs : List Row) → path_held ps ≡ Some qs → (no_rows ps ≡ false) × (ps ≡ qs)
 held_some ps qs h = go (no_rows ps) refl h
   where
-    go : (b : Bool) → no_rows ps ≡ b → (if b then none else some ps) ≡ some qs → (no_rows ps ≡ false) × (ps ≡ qs)
-    go true e k = absurd (none-ne-some qs k)
+    go : (b : Bool) → no_rows ps ≡ b → (if b then None else Some ps) ≡ Some qs → (no_rows ps ≡ false) × (ps ≡ qs)
+    go true e k = absurd (none-some qs k)
     go false e k = (e, (cc))
 
-held_below_some : (rows : List ℕ) (n M : ℕ) (qs : List Row) → held_below rows n M ≡ some qs → (M < n) × (path_held (path_at rows M) ≡ some qs)
+held_below_some : (rows : List ℕ) (n M : ℕ) (qs : List Row) → held_below rows n M ≡ Some qs → (M < n) × (path_held (path_at rows M) ≡ Some qs)
 held_below_some rows n M qs h = go (ltb M n) refl h
   where
-    go : (b : Bool) → ltb M n ≡ b → (if b then path_held (path_at rows M) else none) ≡ some qs → (M < n) × (path_held (path_at rows M) ≡ some qs)
+    go : (b : Bool) → ltb M n ≡ b → (if b then path_held (path_at rows M) else None) ≡ Some qs → (M < n) × (path_held (path_at rows M) ≡ Some qs)
     go true e k = (ltb-true M n e, k)
-    go false e k = absurd (none-ne-some qs k)
+    go false e k = absurd (none-some qs k)
 
-held_not_yet : (rows : List ℕ) (n M : ℕ) → n ≤ M → held_below rows n M ≡ none
+held_not_yet : (rows : List ℕ) (n M : ℕ) → n ≤ M → held_below rows n M ≡ None
 held_not_yet rows n M beyond = rw (le-ltb M n beyond)
 
 held_already : (rows : List ℕ) (n M : ℕ) → M < n → held_below rows n M ≡ path_held (path_at rows M)
@@ -87,7 +88,7 @@ module _ (rows : List ℕ) (is_legal : legal rows ≡ true) where
         parting = λ M qs h. parting M qs (held_below_some rows n M qs (sym (g.paths M) ∙ h));
       }
     where
-      parting : (M : ℕ) (qs : List Row) → (M < n) × (path_held (path_at rows M) ≡ some qs) → parts qs (path_at rows n) ≡ true
+      parting : (M : ℕ) (qs : List Row) → (M < n) × (path_held (path_at rows M) ≡ Some qs) → parts qs (path_at rows n) ≡ true
       parting M qs earlier =
           let held = held_some (path_at rows M) qs earlier.1 in
           subst (λ (ps : List Row). parts ps (path_at rows n) ≡ true) held.1
@@ -132,7 +133,7 @@ module _ (rows : List ℕ) (is_legal : legal rows ≡ true) where
       go true e g = grown_closed_line n e g
       go false e g = grown_open_line n (omega arith) e g
 
-pub grown_path : (rows : List ℕ) → legal rows ≡ true → (n : ℕ) → n ≤ 64 → (M : ℕ) → path M (grown rows n) ≡ (if ltb M n then path_held (path_at rows M) else none)
+pub grown_path : (rows : List ℕ) → legal rows ≡ true → (n : ℕ) → n ≤ 64 → (M : ℕ) → path M (grown rows n) ≡ (if ltb M n then path_held (path_at rows M) else None)
 grown_path rows is_legal n within M = (each_grown rows is_legal n within).paths M
 
 pub grown_legal : (rows : List ℕ) → legal rows ≡ true → (n : ℕ) → n ≤ 64 → Legal (grown rows n)

@@ -7,7 +7,8 @@ use mathlib.Core.Path.{◌≡◌, refl, sym, ◌∙◌, ap, ap₂, subst}
 use mathlib.Core.Logic.{◌↔◌}
 use mathlib.Core.Bool.{true, false≢true, and-eq-true_iff}
 use mathlib.Core.List.{List, ◌∷◌, ◌++◌}
-use mathlib.Core.Option.{some, none-ne-some}
+use Rattle.std.specs.Prelude.{Some}
+use Rattle.std.proofs.lemmas.Option.{none-some}
 use lib.Dec.{eqb}
 use lib.ListN.{length, take, drop, length-append}
 use lib.Seq.{take_at, get_or_at, get_or-take}
@@ -40,7 +41,7 @@ pub record NodeOnPath (M : ℕ) (t : Tree) (l : ℕ) (rs : List Row) : Type 0 wh
   pub way_is : way (place_on l rs) t ≡ take l rs
   pub node_is : at (place_on l rs) t ≡ node (row_of l rs).weight edges
   pub edge_below : (row_of l rs).edge < (row_of l rs).weight
-  pub path_is : path M (edges (row_of l rs).edge) ≡ some (drop (suc l) rs)
+  pub path_is : path M (edges (row_of l rs).edge) ≡ Some (drop (suc l) rs)
   pub below_is : at (place_on (suc l) rs) t ≡ edges (row_of l rs).edge
 
 way_under : (w e : ℕ) (f : ℕ → Tree) (a : Place) → e < w → way (under w e a) (node w f) ≡ row w e ∷ way a (f e)
@@ -55,7 +56,7 @@ place_under w e l rs i = record { level = suc l; offset = sum_row (row w e) (tak
 at_row_under : (w e l : ℕ) (f : ℕ → Tree) (rs : List Row) → e < w → at (place_on (suc l) (row w e ∷ rs)) (node w f) ≡ at (place_on l rs) (f e)
 at_row_under w e l f rs below = ap (λ a. at a (node w f)) (place_under w e l rs) ∙ at_under w e below f (place_on l rs)
 
-root_on_path : (M w e : ℕ) (f : ℕ → Tree) (rs : List Row) → e < w → path M (f e) ≡ some rs → NodeOnPath M (node w f) 0 (row w e ∷ rs)
+root_on_path : (M w e : ℕ) (f : ℕ → Tree) (rs : List Row) → e < w → path M (f e) ≡ Some rs → NodeOnPath M (node w f) 0 (row w e ∷ rs)
 unfolding way way_by_digits at at_digits sum sum_from row_of
 root_on_path M w e f rs below h =
     record {
@@ -79,9 +80,9 @@ node_under M w e l f rs below x =
       below_is = at_row_under w e (suc l) f rs below ∙ x.below_is;
     }
 
-pub path_node : (M : ℕ) (t : Tree) (l : ℕ) (rs : List Row) → path M t ≡ some rs → l < length rs → NodeOnPath M t l rs
+pub path_node : (M : ℕ) (t : Tree) (l : ℕ) (rs : List Row) → path M t ≡ Some rs → l < length rs → NodeOnPath M t l rs
 unfolding path
-path_node M nothing l rs h below = absurd (none-ne-some rs h)
+path_node M nothing l rs h below = absurd (none-some rs h)
 path_node M (line n) l rs h below =
     let rows = (path_of_line M n rs h).1 in
     let none_there : l < 0 = rw rows at below in
@@ -116,12 +117,12 @@ way_sum (suc l) r (node w f) here =
     ∙ mod-add-div r w
 
 -- the path of a line below a place goes through that place
-path_through : (M l r : ℕ) (t : Tree) (rs : List Row) → Proper t → path M (at_digits l r t) ≡ some rs → path M t ≡ some (way_by_digits l r t ++ rs)
+path_through : (M l r : ℕ) (t : Tree) (rs : List Row) → Proper t → path M (at_digits l r t) ≡ Some rs → path M t ≡ Some (way_by_digits l r t ++ rs)
 unfolding at_digits way_by_digits Proper path
 path_through M zero zero t rs proper h = h
-path_through M zero (suc r) t rs proper h = absurd (none-ne-some rs h)
-path_through M (suc l) r nothing rs proper h = absurd (none-ne-some rs h)
-path_through M (suc l) r (line n) rs proper h = absurd (none-ne-some rs h)
+path_through M zero (suc r) t rs proper h = absurd (none-some rs h)
+path_through M (suc l) r nothing rs proper h = absurd (none-some rs h)
+path_through M (suc l) r (line n) rs proper h = absurd (none-some rs h)
 path_through M (suc l) r (node w f) rs proper h =
     path_under M w f (r % w) (way_by_digits l (r / w) (f (r % w)) ++ rs) proper.1 (mod-lt r proper.0)
     (path_through M l (r / w) (f (r % w)) rs (proper.2 (r % w)) h)
@@ -131,7 +132,7 @@ pub record LineThrough (t : Tree) (a : Place) (w e : ℕ) : Type 0 where
   pub line : ℕ
   pub rows : List Row
   pub line_below : line < 64
-  pub path_is : path line t ≡ some rows
+  pub path_is : path line t ≡ Some rows
   pub level_below : a.level < length rows
   pub rows_above : take a.level rows ≡ way a t
   pub offset_is : sum (take a.level rows) ≡ a.offset
@@ -141,7 +142,7 @@ pub through_edge_below : (t : Tree) (a : Place) (w e : ℕ) → LineThrough t a 
 through_edge_below t a w e x =
     rw x.row_is at (path_node x.line t a.level x.rows x.path_is x.level_below).edge_below
 
-path_line_below : (M : ℕ) (t : Tree) (rs : List Row) → Legal t → path M t ≡ some rs → M < 64
+path_line_below : (M : ℕ) (t : Tree) (rs : List Row) → Legal t → path M t ≡ Some rs → M < 64
 path_line_below M t rs legal h = let small = stands_number M t _ _ legal (path_stands M t rs h) in omega arith
 
 module _ (t : Tree) (legal : Legal t) (a : Place) (w : ℕ) (f : ℕ → Tree) (here : at a t ≡ node w f) where
@@ -158,7 +159,7 @@ module _ (t : Tree) (legal : Legal t) (a : Place) (w : ℕ) (f : ℕ → Tree) (
   line_through e below there =
       let x = present_path (f e) (node_proper.2 e) there in
       let rest = row w e ∷ x.1 in
-      let in_node : path x.0 (at a t) ≡ some rest = rw here (path_under x.0 w f e x.1 node_proper.1 below x.2) in
+      let in_node : path x.0 (at a t) ≡ Some rest = rw here (path_under x.0 w f e x.1 node_proper.1 below x.2) in
       let whole = path_through x.0 a.level a.offset t rest (legal_proper t legal) in_node in
       let long = way_length a.level a.offset t place_present in
       let above = take_at (way a t) rest a.level long in
@@ -175,8 +176,8 @@ module _ (t : Tree) (legal : Legal t) (a : Place) (w : ℕ) (f : ℕ → Tree) (
 
   -- under the edge that a path takes at the node, the path goes on, and the path's next level is there
   pub under_edge_taken :
-      (N : ℕ) (qs : List Row) → path N t ≡ some qs → a.level < length qs → sum (take a.level qs) ≡ a.offset →
-      (path N (f (row_of a.level qs).edge) ≡ some (drop (suc a.level) qs)) × (at (place_on (suc a.level) qs) t ≡ f (row_of a.level qs).edge)
+      (N : ℕ) (qs : List Row) → path N t ≡ Some qs → a.level < length qs → sum (take a.level qs) ≡ a.offset →
+      (path N (f (row_of a.level qs).edge) ≡ Some (drop (suc a.level) qs)) × (at (place_on (suc a.level) qs) t ≡ f (row_of a.level qs).edge)
   under_edge_taken N qs h long offset =
       let y = path_node N t a.level qs h long in
       let same_place : place_on a.level qs ≡ a = λ i. record { level = a.level; offset = offset i } in
@@ -207,9 +208,9 @@ unfolding row_of
 rows_same_node l rs qs same long_r long_q = same_node_by_edges l rs qs long_r long_q λ k below.
     ap (λ (r : Row). r.edge) (sym (get_or-take l rs k (row 0 0) below) ∙ ap (row_of k) (sym same) ∙ get_or-take l qs k (row 0 0) below)
 
-same_node_rows : (M N : ℕ) (t : Tree) (l : ℕ) (rs qs : List Row) → path M t ≡ some rs → path N t ≡ some qs → same_node l rs qs ≡ true → take l qs ≡ take l rs
+same_node_rows : (M N : ℕ) (t : Tree) (l : ℕ) (rs qs : List Row) → path M t ≡ Some rs → path N t ≡ Some qs → same_node l rs qs ≡ true → take l qs ≡ take l rs
 unfolding path same_node
-same_node_rows M N nothing l rs qs h k same = absurd (none-ne-some rs h)
+same_node_rows M N nothing l rs qs h k same = absurd (none-some rs h)
 same_node_rows M N (line n) l rs qs h k same =
     let no_row = (path_of_line M n rs h).1 in
     absurd (false≢true (rw no_row at same))
@@ -223,7 +224,7 @@ same_node_rows M N (node w f) (suc l) rs qs h k same =
     rw (x.rows_are, y.rows_are) (ap₂ (λ e rows. row w e ∷ rows) (sym edge) later)
 
 pub same_node_exactly :
-    (M N : ℕ) (t : Tree) (l : ℕ) (rs qs : List Row) → path M t ≡ some rs → path N t ≡ some qs → l < length rs →
+    (M N : ℕ) (t : Tree) (l : ℕ) (rs qs : List Row) → path M t ≡ Some rs → path N t ≡ Some qs → l < length rs →
     (same_node l rs qs ≡ true) ↔ ((take l qs ≡ take l rs) × (l < length qs))
 same_node_exactly M N t l rs qs h k long = (
   λ same. (same_node_rows M N t l rs qs h k same, (same_node_goes_on l rs qs same).1),
@@ -232,8 +233,8 @@ same_node_exactly M N t l rs qs h k long = (
 
 -- The lines through the node at level l of line M's path are those whose paths have the same node there
 
-module _ (M : ℕ) (t : Tree) (l : ℕ) (rs : List Row) (h : path M t ≡ some rs) (long : l < length rs) where
-  pub same_node_weight : (N : ℕ) (qs : List Row) → path N t ≡ some qs → same_node l rs qs ≡ true → (row_of l qs).weight ≡ (row_of l rs).weight
+module _ (M : ℕ) (t : Tree) (l : ℕ) (rs : List Row) (h : path M t ≡ Some rs) (long : l < length rs) where
+  pub same_node_weight : (N : ℕ) (qs : List Row) → path N t ≡ Some qs → same_node l rs qs ≡ true → (row_of l qs).weight ≡ (row_of l rs).weight
   same_node_weight N qs k same =
       let both = (same_node_exactly M N t l rs qs h k long).0 same in
       let x = path_node M t l rs h long in
@@ -243,7 +244,7 @@ module _ (M : ℕ) (t : Tree) (l : ℕ) (rs : List Row) (h : path M t ≡ some r
       cc
 
   pub same_node_through :
-      (N : ℕ) (qs : List Row) → N < 64 → path N t ≡ some qs → same_node l rs qs ≡ true →
+      (N : ℕ) (qs : List Row) → N < 64 → path N t ≡ Some qs → same_node l rs qs ≡ true →
       LineThrough t (place_on l rs) (row_of l rs).weight (row_of l qs).edge
   same_node_through N qs below k same =
       let both = (same_node_exactly M N t l rs qs h k long).0 same in

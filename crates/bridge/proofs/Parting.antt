@@ -5,7 +5,8 @@ use native.Mathlib.Omega.{arith}
 use mathlib.Core.Path.{◌≡◌, refl, sym, ◌∙◌, ap}
 use mathlib.Core.Bool.{true, false, false≢true, not-eq-not}
 use mathlib.Core.List.{List, [], ◌∷◌}
-use mathlib.Core.Option.{some, none-ne-some}
+use Rattle.std.specs.Prelude.{Some}
+use Rattle.std.proofs.lemmas.Option.{none-some}
 use Rattle.tree.specs.declared.Row.{Row}
 use Rattle.tree.specs.Search.{found}
 use Rattle.tree.specs.Tree.{Tree, nothing, line, node, present, row, path, is_open}
@@ -23,7 +24,7 @@ pub record Parted (L : ℕ) (rs : List Row) (t : Tree) : Type 0 where
   pub proper : Proper t
   pub edges_below : EdgesBelow rs
   pub not_open : is_open L t ≡ false
-  pub parting : (M : ℕ) (qs : List Row) → path M t ≡ some qs → parts qs rs ≡ true
+  pub parting : (M : ℕ) (qs : List Row) → path M t ≡ Some qs → parts qs rs ≡ true
 
 module _ (L : ℕ) where
   pub not_parted_from_line : (n : ℕ) (rs : List Row) → Parted L rs (line n) → ⊥
@@ -41,7 +42,7 @@ module _ (L : ℕ) where
   pub parted_from_nothing : (rs : List Row) → EdgesBelow rs → Parted L rs nothing
   unfolding Proper path is_open found
   parted_from_nothing rs below =
-      record { proper = tt; edges_below = below; not_open = refl; parting = λ M qs h. absurd (none-ne-some qs h) }
+      record { proper = tt; edges_below = below; not_open = refl; parting = λ M qs h. absurd (none-some qs h) }
 
   module _ (r : Row) (rs : List Row) (w : ℕ) (f : ℕ → Tree) (p : Parted L (r ∷ rs) (node w f)) where
     pub parted_weight : w ≡ r.weight
@@ -49,7 +50,7 @@ module _ (L : ℕ) where
     parted_weight =
         let x = present_path (node w f) p.proper refl in
         let below = path_below x.0 w f x.1 x.2 in
-        (parts_row (row w below.edge) below.rest r rs (p.parting x.0 _ (x.2 ∙ ap some below.rows_are))).0
+        (parts_row (row w below.edge) below.rest r rs (p.parting x.0 _ (x.2 ∙ ap Some below.rows_are))).0
 
     pub parted_edge : r.edge < w
     unfolding EdgesBelow

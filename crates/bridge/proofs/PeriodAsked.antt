@@ -7,7 +7,7 @@ use native.Mathlib.Decide.{dec_lt}
 use mathlib.Core.Path.{◌≡◌, refl}
 use mathlib.Core.Bool.{Bool, true, false}
 use mathlib.Core.List.{List}
-use mathlib.Core.Option.{some}
+use Rattle.std.specs.Prelude.{Some}
 use lib.Dec.{ltb}
 use borrow.Author.Tests.{ltb-true}
 use Rattle.tree.specs.Tree.{Tree}
@@ -18,7 +18,7 @@ use Rattle.tree.proofs.Checks.{open_refused_1, open_refused_2, above_out_of_rang
 use Rattle.bridge.specs.Rows.{tree_of_rows, rows_unless, rows_after, CarriedOut}
 
 -- 4,096 and every period above 4,095 are refused alike, with 1 or 2
-refused_alike : (L p : ℕ) (t : Tree) → 4095 < p → (n : ℕ) × (open_refusal L 4096 t ≡ some n) × (open_refusal L p t ≡ some n)
+refused_alike : (L p : ℕ) (t : Tree) → 4095 < p → (n : ℕ) × (open_refusal L 4096 t ≡ Some n) × (open_refusal L p t ≡ Some n)
 refused_alike L p t large =
     elim (dec_lt 63 L) [
       | yes above ↦ (1, open_refused_1 L 4096 t above, open_refused_1 L p t above)

@@ -8,7 +8,8 @@ use native.Mathlib.Decide.{dec_lt}
 use mathlib.Core.Path.{◌≡◌, refl, sym, ◌∙◌, ap, ap₂}
 use mathlib.Core.Bool.{true, false, ◌&&◌, and-eq-true_iff, or-true}
 use mathlib.Core.List.{List, [], ◌∷◌}
-use mathlib.Core.Option.{Option, none, some, get_or, none-ne-some}
+use Rattle.std.specs.Prelude.{Option, None, Some, unwrap_or}
+use Rattle.std.proofs.lemmas.Option.{none-some}
 use lib.ListN.{length}
 use Rattle.tree.specs.declared.Row.{Row}
 use Rattle.tree.specs.declared.Plan.{Plan}
@@ -49,18 +50,18 @@ unfolding together
 parts_together ps qs h = rw (h, or-true, or-true)
 
 -- a line of a legal tree has a node above it
-path_has_rows : (t : Tree) (M : ℕ) (rs : List Row) → Legal t → path M t ≡ some rs → no_rows rs ≡ false
+path_has_rows : (t : Tree) (M : ℕ) (rs : List Row) → Legal t → path M t ≡ Some rs → no_rows rs ≡ false
 unfolding Legal path no_rows
-path_has_rows nothing M rs is_legal h = absurd (none-ne-some rs h)
+path_has_rows nothing M rs is_legal h = absurd (none-some rs h)
 path_has_rows (line n) M rs is_legal h = absurd is_legal
 path_has_rows (node w f) M rs is_legal h = ap no_rows (path_below M w f rs h).rows_are
 
-beyond_no_path : (t : Tree) (M : ℕ) → Legal t → 64 ≤ M → path M t ≡ none
+beyond_no_path : (t : Tree) (M : ℕ) → Legal t → 64 ≤ M → path M t ≡ None
 beyond_no_path t M is_legal beyond = by_path (path M t) refl
   where
-    by_path : (o : Option (List Row)) → path M t ≡ o → path M t ≡ none
-    by_path none e = e
-    by_path (some rs) e =
+    by_path : (o : Option (List Row)) → path M t ≡ o → path M t ≡ None
+    by_path None e = e
+    by_path (Some rs) e =
         let most = stands_number M t (product rs) (sum rs) is_legal (path_stands M t rs e) in
         absurd (omega arith)
 
@@ -69,9 +70,9 @@ module _ (t : Tree) (is_legal : Legal t) where
   unfolding path_of Weighted
   path_of_written M = by_path (path M t) refl
     where
-      by_path : (o : Option (List Row)) → path M t ≡ o → Written (get_or o [])
-      by_path none e = record { at_most_11 = omega arith; weighted = tt }
-      by_path (some rs) e =
+      by_path : (o : Option (List Row)) → path M t ≡ o → Written (unwrap_or o [])
+      by_path None e = record { at_most_11 = omega arith; weighted = tt }
+      by_path (Some rs) e =
           record {
             at_most_11 = at_most_11_above t M rs is_legal e;
             weighted = edges_weighted rs (path_edges_below rs (legal_path_in_range t M rs is_legal e));
@@ -81,18 +82,18 @@ module _ (t : Tree) (is_legal : Legal t) where
   unfolding path_of
   path_of_in_range M = by_path (path M t) refl
     where
-      by_path : (o : Option (List Row)) → path M t ≡ o → path_in_range (get_or o []) ≡ true
-      by_path none e = no_rows_in_range
-      by_path (some rs) e = legal_path_in_range t M rs is_legal e
+      by_path : (o : Option (List Row)) → path M t ≡ o → path_in_range (unwrap_or o []) ≡ true
+      by_path None e = no_rows_in_range
+      by_path (Some rs) e = legal_path_in_range t M rs is_legal e
 
   paths_together : (M N : ℕ) → (M ≡ N → ⊥) → together (path_of M t) (path_of N t) ≡ true
   unfolding path_of together no_rows
   paths_together M N other = by_paths (path M t) refl (path N t) refl
     where
-      by_paths : (o : Option (List Row)) → path M t ≡ o → (p : Option (List Row)) → path N t ≡ p → together (get_or o []) (get_or p []) ≡ true
-      by_paths none e p k = refl
-      by_paths (some rs) e none k = or-true (no_rows rs)
-      by_paths (some rs) e (some qs) k = parts_together rs qs (paths_part t M N rs qs other e k)
+      by_paths : (o : Option (List Row)) → path M t ≡ o → (p : Option (List Row)) → path N t ≡ p → together (unwrap_or o []) (unwrap_or p []) ≡ true
+      by_paths None e p k = refl
+      by_paths (Some rs) e None k = or-true (no_rows rs)
+      by_paths (Some rs) e (Some qs) k = parts_together rs qs (paths_part t M N rs qs other e k)
 
   -- The record of the tree
 
@@ -125,16 +126,16 @@ module _ (t : Tree) (is_legal : Legal t) where
   record_has_tree =
       same_paths_same_tree (tree_of (record_of t)) t (legal_proper (tree_of (record_of t)) (tree_of_legal (record_of t))) (legal_proper t is_legal) same_path
     where
-      held : (M : ℕ) (o : Option (List Row)) → path M t ≡ o → (if no_rows (get_or o []) then none else some (get_or o [])) ≡ o
-      held M none e = refl
-      held M (some rs) e = rw (path_has_rows t M rs is_legal e)
+      held : (M : ℕ) (o : Option (List Row)) → path M t ≡ o → (if no_rows (unwrap_or o []) then None else Some (unwrap_or o [])) ≡ o
+      held M None e = refl
+      held M (Some rs) e = rw (path_has_rows t M rs is_legal e)
 
       same_path : (M : ℕ) → path M (tree_of (record_of t)) ≡ path M t
       same_path M =
           elim (dec_lt M 64) [
             | yes below ↦
                 tree_of_path (record_of t) M record_legal below
-                ∙ ap (λ (rs : List Row). if no_rows rs then none else some rs) (record_path M below)
+                ∙ ap (λ (rs : List Row). if no_rows rs then None else Some rs) (record_path M below)
                 ∙ held M (path M t) refl
             | no beyond ↦ tree_of_path_beyond (record_of t) M (omega arith) ∙ sym (beyond_no_path t M is_legal (omega arith))
           ]

@@ -3,7 +3,8 @@
 use Prim.Native.Nat.{ℕ, ◌<◌}
 use mathlib.Core.Path.{◌≡◌, refl, sym, ◌∙◌, ap}
 use mathlib.Core.List.{List, [], ◌∷◌}
-use mathlib.Core.Option.{Option, none, some, none-ne-some}
+use Rattle.std.specs.Prelude.{Option, None, Some}
+use Rattle.std.proofs.lemmas.Option.{none-some}
 use borrow.Author.Tests.{eq-eqb}
 use Rattle.tree.specs.declared.Row.{Row}
 use Rattle.tree.specs.Tree.{Tree, nothing, line, node, row, product, sum_from, sum, path}
@@ -53,9 +54,9 @@ route_stands M (node w f) rs h =
 
 -- A path is a route, and a route is the path
 
-pub path_route : (M : ℕ) (t : Tree) (rs : List Row) → path M t ≡ some rs → Route M t rs
+pub path_route : (M : ℕ) (t : Tree) (rs : List Row) → path M t ≡ Some rs → Route M t rs
 unfolding path Route
-path_route M nothing rs h = absurd (none-ne-some rs h)
+path_route M nothing rs h = absurd (none-some rs h)
 path_route M (line n) rs h = path_of_line M n rs h
 path_route M (node w f) rs h =
     let x = path_below M w f rs h in
@@ -67,17 +68,17 @@ path_route M (node w f) rs h =
       rows_are = x.rows_are;
     }
 
-pub route_path : (M : ℕ) (t : Tree) (rs : List Row) → Proper t → Route M t rs → path M t ≡ some rs
+pub route_path : (M : ℕ) (t : Tree) (rs : List Row) → Proper t → Route M t rs → path M t ≡ Some rs
 unfolding path Route Proper
 route_path M nothing rs proper h = absurd h
 route_path M (line n) rs proper h = rw (eq-eqb n M h.0, h.1)
 route_path M (node w f) rs proper h =
     let below = route_path M (f h.edge) h.rest (proper.2 h.edge) h.route in
-    path_under M w f h.edge h.rest proper.1 h.edge_below below ∙ ap some (sym h.rows_are)
+    path_under M w f h.edge h.rest proper.1 h.edge_below below ∙ ap Some (sym h.rows_are)
 
-pub no_route_path_none : (M : ℕ) (t : Tree) → ((rs : List Row) → Route M t rs → ⊥) → path M t ≡ none
+pub no_route_path_none : (M : ℕ) (t : Tree) → ((rs : List Row) → Route M t rs → ⊥) → path M t ≡ None
 no_route_path_none M t absent = go (path M t) refl
   where
-    go : (o : Option (List Row)) → path M t ≡ o → path M t ≡ none
-    go none e = e
-    go (some rs) e = absurd (absent rs (path_route M t rs e))
+    go : (o : Option (List Row)) → path M t ≡ o → path M t ≡ None
+    go None e = e
+    go (Some rs) e = absurd (absent rs (path_route M t rs e))

@@ -3,7 +3,7 @@
 use Prim.Native.Nat.{ℕ}
 use mathlib.Core.Path.{◌≡◌, refl, sym, ◌∙◌}
 use mathlib.Core.List.{List}
-use mathlib.Core.Option.{Option, none, some}
+use Rattle.std.specs.Prelude.{Option, None, Some}
 use borrow.Author.Tests.{ne_eqb}
 use Rattle.tree.specs.declared.Row.{Row}
 use Rattle.tree.specs.Tree.{Tree, nothing, line, node, path}
@@ -32,11 +32,11 @@ pub closed_path_other : (L M : ℕ) (t : Tree) → Legal t → (M ≡ L → ⊥)
 closed_path_other L M t legal other = go (path M t) refl
   where
     go : (o : Option (List Row)) → path M t ≡ o → path M (closed L t) ≡ path M t
-    go (some rs) e =
+    go (Some rs) e =
         route_path M (closed L t) rs (legal_proper (closed L t) (closed_legal L t legal)) (route_closed L M t rs other (path_route M t rs e)) ∙ sym e
-    go none e =
+    go None e =
         no_route_path_none M (closed L t) (λ rs h. path_found M t _ _ (closed_stands L M t _ _ (route_stands M (closed L t) rs h)).0 e) ∙ sym e
 
-pub closed_path_gone : (L : ℕ) (t : Tree) → path L (closed L t) ≡ none
+pub closed_path_gone : (L : ℕ) (t : Tree) → path L (closed L t) ≡ None
 closed_path_gone L t =
     no_route_path_none L (closed L t) λ rs h. (closed_stands L L t _ _ (route_stands L (closed L t) rs h)).1 refl

@@ -6,7 +6,7 @@ use native.Mathlib.Decide.{dec_lt}
 use mathlib.Core.Path.{◌≡◌, refl, sym, ◌∙◌, ap, ap₂, fun_ext}
 use mathlib.Core.Bool.{true}
 use mathlib.Core.List.{List, []}
-use mathlib.Core.Option.{Option, none, some}
+use Rattle.std.specs.Prelude.{Option, None, Some}
 use borrow.Author.Tests.{eq-eqb}
 use Rattle.tree.specs.declared.Row.{Row}
 use Rattle.tree.specs.Tree.{Tree, nothing, line, node, present, path, is_open}
@@ -19,7 +19,7 @@ use Rattle.bridge.proofs.NodePath.{path_under, path_under_edge}
 
 -- Where something stands, some line has a path
 
-pub present_path : (t : Tree) → Proper t → present t ≡ true → (M : ℕ) × (rs : List Row) × (path M t ≡ some rs)
+pub present_path : (t : Tree) → Proper t → present t ≡ true → (M : ℕ) × (rs : List Row) × (path M t ≡ Some rs)
 unfolding is_open
 present_path t proper here =
     let x = proper_present_line t proper here in
@@ -27,11 +27,11 @@ present_path t proper here =
     (x.0, p.0, p.1)
 
 -- the path of a line that stands at the root
-pub path_here : (n : ℕ) → path n (line n) ≡ some []
+pub path_here : (n : ℕ) → path n (line n) ≡ Some []
 unfolding path
 path_here n = rw (eq-eqb n n refl)
 
-no_paths_nothing : (t : Tree) → Proper t → ((M : ℕ) → path M t ≡ none) → t ≡ nothing
+no_paths_nothing : (t : Tree) → Proper t → ((M : ℕ) → path M t ≡ None) → t ≡ nothing
 unfolding present
 no_paths_nothing nothing proper absent = refl
 no_paths_nothing (line n) proper absent = let here = path_here n in let away = absent n in cc
@@ -42,7 +42,7 @@ no_paths_nothing (node w f) proper absent =
     cc
 
 -- no path ends at a node
-pub path_goes_on : (M w : ℕ) (f : ℕ → Tree) → path M (node w f) ≡ some [] → ⊥
+pub path_goes_on : (M w : ℕ) (f : ℕ → Tree) → path M (node w f) ≡ Some [] → ⊥
 path_goes_on M w f h =
     let x = path_below M w f [] h in
     let y = x.rows_are in
@@ -57,16 +57,16 @@ module _ (w v : ℕ) (f g : ℕ → Tree) (same : (M : ℕ) → path M (node w f
   same_weight proper =
       let x = present_path (node w f) proper refl in
       let a = path_below x.0 w f x.1 x.2 in
-      (path_under_edge x.0 v g w a.edge a.rest (sym (same x.0) ∙ x.2 ∙ ap some a.rows_are)).0
+      (path_under_edge x.0 v g w a.edge a.rest (sym (same x.0) ∙ x.2 ∙ ap Some a.rows_are)).0
 
-  path_in_other : Edges w f → (e M : ℕ) (rs : List Row) → e < w → path M (f e) ≡ some rs → path M (g e) ≡ some rs
+  path_in_other : Edges w f → (e M : ℕ) (rs : List Row) → e < w → path M (f e) ≡ Some rs → path M (g e) ≡ Some rs
   path_in_other edges e M rs below h =
       (path_under_edge M v g w e rs (sym (same M) ∙ path_under M w f e rs edges below h)).1
 
-same_option : {A : Type 0} (o p : Option A) → ((a : A) → o ≡ some a → p ≡ some a) → ((a : A) → p ≡ some a → o ≡ some a) → o ≡ p
-same_option none none there back = refl
-same_option none (some a) there back = back a refl
-same_option (some a) p there back = sym (there a refl)
+same_option : {A : Type 0} (o p : Option A) → ((a : A) → o ≡ Some a → p ≡ Some a) → ((a : A) → p ≡ Some a → o ≡ Some a) → o ≡ p
+same_option None None there back = refl
+same_option None (Some a) there back = back a refl
+same_option (Some a) p there back = sym (there a refl)
 
 pub same_paths_same_tree : (t s : Tree) → Proper t → Proper s → ((M : ℕ) → path M t ≡ path M s) → t ≡ s
 unfolding Proper path

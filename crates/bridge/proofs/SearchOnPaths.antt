@@ -4,7 +4,7 @@ use Rattle.std.specs.Prelude.{if◌then◌else◌}
 use Prim.Native.Nat.{ℕ, ◌<◌}
 use mathlib.Core.Path.{◌≡◌, refl, sym, ◌∙◌, ap, subst}
 use mathlib.Core.Bool.{true, false, false≢true, not-eq-not, and-eq-true_iff}
-use mathlib.Core.Option.{none, some}
+use Rattle.std.specs.Prelude.{None, Some}
 use lib.ListN.{length, take}
 use Rattle.tree.specs.Numbers.{divides}
 use Rattle.tree.specs.Search.{found}
@@ -30,7 +30,7 @@ candidate_node p m (node w f) h = (w, f, refl)
 
 -- the spot that the search found: the chosen candidate, with what the booking needs of it
 pub record FoundSpot (p : ℕ) (t : Tree) (family : Family) (s : Spot) : Type 0 where
-  pub chosen_is : chosen p t ≡ some (place_of s)
+  pub chosen_is : chosen p t ≡ Some (place_of s)
   pub line_below : s.line < 64
   pub level_below : s.level < length (family s.line)
   pub rows_above : way (place_of s) t ≡ take s.level (family s.line)
@@ -40,7 +40,7 @@ pub record FoundSpot (p : ℕ) (t : Tree) (family : Family) (s : Spot) : Type 0 
   pub class_is : s.class ≡ class_at p t (place_of s)
 
 module _ (t : Tree) (legal : Legal t) (family : Family) (paths : PathsOf t family) (p : ℕ) where
-  spot_candidate : (M l : ℕ) (s : Spot) → M < 64 → l < length (family M) → spot_at family p M l ≡ some s → (candidate_at p t (place_on l (family M)) ≡ true) × (spot_on p t M l (family M) ≡ s)
+  spot_candidate : (M l : ℕ) (s : Spot) → M < 64 → l < length (family M) → spot_at family p M l ≡ Some s → (candidate_at p t (place_on l (family M)) ≡ true) × (spot_on p t M l (family M) ≡ s)
   spot_candidate M l s below long h =
       if_some (candidate_at p t (place_on l (family M))) (spot_on p t M l (family M)) s (sym (spot_at_is t legal family paths M l below long p) ∙ h)
 
@@ -56,20 +56,20 @@ module _ (t : Tree) (legal : Legal t) (family : Family) (paths : PathsOf t famil
       let offset : sum (take l (family M)) ≡ a.offset = rw rows y.offset_is in
       let same : place_on l (family M) ≡ a = λ i. record { level = l; offset = offset i } in
       let spot = spot_on p t M l (family M) in
-      let offered : spot_at family p M l ≡ some spot =
-      spot_at_is t legal family paths M l y.line_below long p ∙ ap (λ b. if b then some spot else none) (ap (candidate_at p t) same ∙ h) in
+      let offered : spot_at family p M l ≡ Some spot =
+      spot_at_is t legal family paths M l y.line_below long p ∙ ap (λ b. if b then Some spot else None) (ap (candidate_at p t) same ∙ h) in
       (spot, (M, y.line_below, (l, long, offered)), same)
 
   -- The search finds the chosen candidate
 
-  pub search_none : best_of_lines family p 64 ≡ none → chosen p t ≡ none
+  pub search_none : best_of_lines family p 64 ≡ None → chosen p t ≡ None
   unfolding NoCandidate
   search_none e =
       let picked = rw e at (picks_of_lines family p 64) in
       no_candidate_chosen_none p t (legal_proper t legal) λ a. not-eq-not.0 λ h.
       let x = candidate_spot a h in picked x.0 x.1
 
-  found_on_path : (M l : ℕ) → M < 64 → l < length (family M) → chosen p t ≡ some (place_on l (family M)) → FoundSpot p t family (spot_on p t M l (family M))
+  found_on_path : (M l : ℕ) → M < 64 → l < length (family M) → chosen p t ≡ Some (place_on l (family M)) → FoundSpot p t family (spot_on p t M l (family M))
   unfolding place_of spot_on
   found_on_path M l below long h =
       let x = node_on_path t family paths M l below long in
@@ -85,14 +85,14 @@ module _ (t : Tree) (legal : Legal t) (family : Family) (paths : PathsOf t famil
       }
 
   -- a candidate that no spot comes before is the chosen one
-  first_chosen : (a : Place) → candidate_at p t a ≡ true → ((q : Spot) → OnLines family p 64 q → before (place_of q) a ≡ false) → chosen p t ≡ some a
+  first_chosen : (a : Place) → candidate_at p t a ≡ true → ((q : Spot) → OnLines family p 64 q → before (place_of q) a ≡ false) → chosen p t ≡ Some a
   first_chosen a h none_before =
       is_chosen_chosen p t a (legal_proper t legal) (record {
         is_candidate = h;
         none_before = λ b k. let y = candidate_spot b k in rw y.2 at (none_before y.0 y.1);
       })
 
-  pub search_some : (s : Spot) → best_of_lines family p 64 ≡ some s → FoundSpot p t family s
+  pub search_some : (s : Spot) → best_of_lines family p 64 ≡ Some s → FoundSpot p t family s
   unfolding place_of spot_on
   search_some s e =
       let picked = rw e at (picks_of_lines family p 64) in

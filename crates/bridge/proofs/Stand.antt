@@ -7,7 +7,7 @@ use mathlib.Core.Path.{◌≡◌, refl, sym, ◌∙◌, ap}
 use mathlib.Core.Logic.{◌⊎◌, inl, inr}
 use mathlib.Core.Bool.{true, not-eq-not}
 use mathlib.Core.List.{List, [], ◌∷◌}
-use mathlib.Core.Option.{none, some}
+use Rattle.std.specs.Prelude.{None, Some}
 use Rattle.tree.specs.declared.Row.{Row}
 use Rattle.tree.specs.Tree.{Tree, nothing, line, node, present, row, product, path, is_open}
 use Rattle.tree.specs.Standing.{Stands}
@@ -109,7 +109,7 @@ module _ (L : ℕ) where
 
   -- The paths in it
 
-  pub stand_path_new : (rs : List Row) (t : Tree) → Parted L rs t → path L (stand L rs t) ≡ some rs
+  pub stand_path_new : (rs : List Row) (t : Tree) → Parted L rs t → path L (stand L rs t) ≡ Some rs
   unfolding stand EdgesBelow
   stand_path_new [] t p = path_here L
   stand_path_new (r ∷ rs) nothing p =
@@ -120,9 +120,9 @@ module _ (L : ℕ) where
   stand_path_new (r ∷ rs) (node w f) p =
       path_under L w _ r.edge rs (stand_in_node r rs w f p) (parted_edge L r rs w f p)
       (ap (path L) (put_same r.edge r.edge (stand L rs (f r.edge)) f refl) ∙ stand_path_new rs (f r.edge) (parted_below L r rs w f p))
-      ∙ ap (λ (v : ℕ). some (row v r.edge ∷ rs)) (parted_weight L r rs w f p)
+      ∙ ap (λ (v : ℕ). Some (row v r.edge ∷ rs)) (parted_weight L r rs w f p)
 
-  other_path_in_nothing : (M : ℕ) (rs : List Row) → (M ≡ L → ⊥) → path M (stand L rs nothing) ≡ none
+  other_path_in_nothing : (M : ℕ) (rs : List Row) → (M ≡ L → ⊥) → path M (stand L rs nothing) ≡ None
   unfolding is_open
   other_path_in_nothing M rs other = found_none _ (not-eq-not.0 λ h.
       elim (open_or_new M rs nothing h) [ inl x ↦ nothing_open M nothing refl x | inr new ↦ other new ])

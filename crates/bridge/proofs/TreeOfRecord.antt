@@ -6,7 +6,7 @@ use native.Mathlib.Omega.{arith}
 use mathlib.Core.Path.{◌≡◌, refl, sym, ◌∙◌, ap}
 use mathlib.Core.Bool.{Bool, true, false, not}
 use mathlib.Core.List.{List, [], ◌∷◌}
-use mathlib.Core.Option.{Option, none, some, get_or}
+use Rattle.std.specs.Prelude.{Option, None, Some, unwrap_or}
 use borrow.Author.Tests.{lt-ltb, le-ltb}
 use Rattle.tree.specs.declared.Row.{Row}
 use Rattle.tree.specs.declared.Plan.{Plan}
@@ -40,9 +40,9 @@ tree_of_path plan M is_legal below =
 
 pub tree_of_path_of : (plan : Plan) (M : ℕ) → legal plan.rows ≡ true → M < 64 → path_of M (tree_of plan) ≡ path_at plan.rows M
 unfolding path_of no_rows
-tree_of_path_of plan M is_legal below = ap (λ (o : Option (List Row)). get_or o []) (tree_of_path plan M is_legal below) ∙ held_rows (path_at plan.rows M)
+tree_of_path_of plan M is_legal below = ap (λ (o : Option (List Row)). unwrap_or o []) (tree_of_path plan M is_legal below) ∙ held_rows (path_at plan.rows M)
   where
-    held_rows : (ps : List Row) → get_or (path_held ps) [] ≡ ps
+    held_rows : (ps : List Row) → unwrap_or (path_held ps) [] ≡ ps
     held_rows [] = refl
     held_rows (r ∷ rs) = refl
 
@@ -50,11 +50,11 @@ tree_of_path_of plan M is_legal below = ap (λ (o : Option (List Row)). get_or o
 pub tree_of_paths : (plan : Plan) → legal plan.rows ≡ true → PathsOf (tree_of plan) (path_at plan.rows)
 tree_of_paths plan is_legal M below = sym (tree_of_path_of plan M is_legal below)
 
-pub tree_of_path_beyond : (plan : Plan) (M : ℕ) → 64 ≤ M → path M (tree_of plan) ≡ none
+pub tree_of_path_beyond : (plan : Plan) (M : ℕ) → 64 ≤ M → path M (tree_of plan) ≡ None
 unfolding tree_of path
 tree_of_path_beyond plan M beyond = go (legal plan.rows) refl
   where
-    go : (b : Bool) → legal plan.rows ≡ b → path M (if b then grown plan.rows 64 else nothing) ≡ none
+    go : (b : Bool) → legal plan.rows ≡ b → path M (if b then grown plan.rows 64 else nothing) ≡ None
     go true e = grown_path plan.rows e 64 (omega arith) M ∙ rw (le-ltb M 64 beyond)
     go false e = refl
 
@@ -75,6 +75,6 @@ module _ (rows : List ℕ) where
     unfolding tree_of_rows is_open found
     open_on_record L below = ap found (tree_of_path (record { rows = rows }) L is_legal below) ∙ by_rows (no_rows (path_at rows L))
       where
-        by_rows : (b : Bool) → found (if b then none else some (path_at rows L)) ≡ not b
+        by_rows : (b : Bool) → found (if b then None else Some (path_at rows L)) ≡ not b
         by_rows true = refl
         by_rows false = refl

@@ -7,7 +7,8 @@ use native.Mathlib.Nat.{mod-lt}
 use mathlib.Core.Path.{◌≡◌, refl, sym, ◌∙◌, ap}
 use mathlib.Core.Bool.{Bool, true, false, not, true≢false, false≢true, not-eq-not, and-eq-true_iff}
 use mathlib.Core.List.{List, [], ◌∷◌}
-use mathlib.Core.Option.{Option, none, some, none-ne-some}
+use Rattle.std.specs.Prelude.{Option, None, Some}
+use Rattle.std.proofs.lemmas.Option.{none-some}
 use lib.Dec.{eqb}
 use lib.ListN.{length, drop}
 use lib.Seq.{drop-length}
@@ -29,14 +30,14 @@ use Rattle.bridge.proofs.ClassOnPaths.{PathsOf, path_family, family_path, node_o
 use Rattle.bridge.proofs.SameTree.{path_goes_on}
 
 -- a path without rows leads to the line itself
-path_ends_at_line : (N : ℕ) (t : Tree) → path N t ≡ some [] → t ≡ line N
+path_ends_at_line : (N : ℕ) (t : Tree) → path N t ≡ Some [] → t ≡ line N
 unfolding path
-path_ends_at_line N nothing h = absurd (none-ne-some [] h)
+path_ends_at_line N nothing h = absurd (none-some [] h)
 path_ends_at_line N (line n) h = ap line (path_of_line N n [] h).0
 path_ends_at_line N (node w f) h = absurd (path_goes_on N w f h)
 
 -- where nothing stands the walk finds no line
-absent_no_owner : (n : ℕ) (t : Tree) → present t ≡ false → owner n t ≡ none
+absent_no_owner : (n : ℕ) (t : Tree) → present t ≡ false → owner n t ≡ None
 unfolding present owner
 absent_no_owner n nothing h = refl
 absent_no_owner n (line m) h = absurd (true≢false h)
@@ -67,11 +68,11 @@ module _ (t : Tree) (legal : Legal t) (family : Family) (paths : PathsOf t famil
     node_is : at (place_on l (family M)) t ≡ node weight edges
     node_is = (node_on_path t family paths M l below long).node_is
 
-    standing : path M t ≡ some (family M)
+    standing : path M t ≡ Some (family M)
     standing = family_path t family paths M l below long
 
     -- an edge that no line takes is absent
-    none_under : (e n : ℕ) → e < weight → line_under family (family M) l e ≡ none → owner n (edges e) ≡ none
+    none_under : (e n : ℕ) → e < weight → line_under family (family M) l e ≡ None → owner n (edges e) ≡ None
     unfolding line_under
     none_under e n edge_below h = absent_no_owner n (edges e) (not-eq-not.0 λ there.
         let x = (edge_present t legal (place_on l (family M)) weight edges node_is e edge_below).0 there in
@@ -83,10 +84,10 @@ module _ (t : Tree) (legal : Legal t) (family : Family) (paths : PathsOf t famil
     record Taking (e N : ℕ) : Type 0 where
       line_below : N < 64
       level_below : l < length (family N)
-      path_is : path N (edges e) ≡ some (drop (suc l) (family N))
+      path_is : path N (edges e) ≡ Some (drop (suc l) (family N))
       below_is : at (place_on (suc l) (family N)) t ≡ edges e
 
-    some_under : (e N : ℕ) → line_under family (family M) l e ≡ some N → Taking e N
+    some_under : (e N : ℕ) → line_under family (family M) l e ≡ Some N → Taking e N
     unfolding line_under
     some_under e N h =
         let x = smallest_some 64 _ N h in
@@ -102,17 +103,17 @@ module _ (t : Tree) (legal : Legal t) (family : Family) (paths : PathsOf t famil
           below_is = rw edge at goes_on.1;
         }
 
-    ends_at_edge : (e N k : ℕ) → Taking e N → length (family N) ≡ suc l → owner k (edges e) ≡ some N
+    ends_at_edge : (e N k : ℕ) → Taking e N → length (family N) ≡ suc l → owner k (edges e) ≡ Some N
     unfolding owner
     ends_at_edge e N k x ends =
         let no_row : drop (suc l) (family N) ≡ [] = ap (λ (m : ℕ). drop m (family N)) (sym ends) ∙ drop-length (family N) in
-        ap (owner k) (path_ends_at_line N (edges e) (x.path_is ∙ ap some no_row))
+        ap (owner k) (path_ends_at_line N (edges e) (x.path_is ∙ ap Some no_row))
 
     module _ (left : ℕ) (walk_below : (N k : ℕ) → N < 64 → suc l < length (family N) → walk_on_paths family left N (suc l) k ≡ owner k (at (place_on (suc l) (family N)) t)) where
-      walk_under : (e N k : ℕ) → Taking e N → (if eqb (length (family N)) (suc l) then some N else walk_on_paths family left N (suc l) k) ≡ owner k (edges e)
+      walk_under : (e N k : ℕ) → Taking e N → (if eqb (length (family N)) (suc l) then Some N else walk_on_paths family left N (suc l) k) ≡ owner k (edges e)
       walk_under e N k x = by_length (eqb (length (family N)) (suc l)) refl
         where
-          by_length : (b : Bool) → eqb (length (family N)) (suc l) ≡ b → (if b then some N else walk_on_paths family left N (suc l) k) ≡ owner k (edges e)
+          by_length : (b : Bool) → eqb (length (family N)) (suc l) ≡ b → (if b then Some N else walk_on_paths family left N (suc l) k) ≡ owner k (edges e)
           by_length true same = sym (ends_at_edge e N k x (eqb-true (length (family N)) (suc l) same))
           by_length false other =
               let longer = eqb-false (length (family N)) (suc l) other in
@@ -124,10 +125,10 @@ module _ (t : Tree) (legal : Legal t) (family : Family) (paths : PathsOf t famil
       walk_from n = rw node_is (by_line (line_under family (family M) l (n % weight)) refl)
         where
           by_line : (o : Option ℕ) → line_under family (family M) l (n % weight) ≡ o → walk_on_paths family (suc left) M l n ≡ owner (n / weight) (edges (n % weight))
-          by_line none h =
+          by_line None h =
               let edge_below = (node_on_path t family paths M l below long).edge_below in
               rw (h, walk_on_paths) (sym (none_under (n % weight) (n / weight) (mod-lt n (omega arith)) h))
-          by_line (some N) h = rw (h, walk_on_paths) (walk_under (n % weight) N (n / weight) (some_under (n % weight) N h))
+          by_line (Some N) h = rw (h, walk_on_paths) (walk_under (n % weight) N (n / weight) (some_under (n % weight) N h))
 
   -- at the node at level l of line M's path, if the walk may pass as many nodes as are left
   pub walk_is : (left M l n : ℕ) → M < 64 → l < length (family M) → 11 ≤ l + left → walk_on_paths family left M l n ≡ owner n (at (place_on l (family M)) t)
@@ -139,7 +140,7 @@ module _ (t : Tree) (legal : Legal t) (family : Family) (paths : PathsOf t famil
   -- From the root
 
   -- every plan but the empty one holds a line
-  no_line_no_owner : (n : ℕ) → smallest 64 (λ M. not (no_rows (family M))) ≡ none → owner n t ≡ none
+  no_line_no_owner : (n : ℕ) → smallest 64 (λ M. not (no_rows (family M))) ≡ None → owner n t ≡ None
   unfolding at at_digits
   no_line_no_owner n h = absent_no_owner n t (not-eq-not.0 λ here.
       let root = root_node t legal here in
@@ -153,7 +154,7 @@ module _ (t : Tree) (legal : Legal t) (family : Family) (paths : PathsOf t famil
   owner_is n = by_line (smallest 64 (λ M. not (no_rows (family M)))) refl
     where
       by_line : (o : Option ℕ) → smallest 64 (λ M. not (no_rows (family M))) ≡ o → owner_on_paths family n ≡ owner n t
-      by_line none h = rw (h, owner_on_paths) (sym (no_line_no_owner n h))
-      by_line (some M) h =
+      by_line None h = rw (h, owner_on_paths) (sym (no_line_no_owner n h))
+      by_line (Some M) h =
           let x = smallest_some 64 _ M h in
           rw (h, owner_on_paths) (walk_is 11 M 0 n x.in_range (some_rows (family M) (not-true (no_rows (family M)) x.passes)) (omega arith))

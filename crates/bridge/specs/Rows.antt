@@ -1,7 +1,7 @@
 -- What an open and a close make of the numbers of a plan record.
 -- Assumes nothing.
 use Rattle.std.specs.Prelude.{ℕ, ◌≡◌, true, List}
-use Rattle.std.proofs.Math.Option.{Option, none, some}
+use Rattle.std.specs.Prelude.{Option, None, Some}
 use Rattle.tree.specs.declared.Plan.{Plan}
 use Rattle.tree.specs.Tree.{Tree}
 use Rattle.tree.specs.Calls.{Call, Answer, refusal, carried_out, answer}
@@ -16,8 +16,8 @@ unfoldable pub tree_of_rows : List ℕ → Tree
 tree_of_rows rows = tree_of (plan_of rows)
 
 unfoldable pub rows_unless : Option ℕ → List ℕ → List ℕ → List ℕ
-rows_unless (some n) before after = before
-rows_unless none before after = after
+rows_unless (Some n) before after = before
+rows_unless None before after = after
 
 -- the record's numbers after a call: those of the tree that the rules leave, or as they were where the call is refused
 unfoldable pub rows_after : Call → List ℕ → List ℕ

@@ -7,7 +7,7 @@ use native.Mathlib.Numerals.{add-one}
 use mathlib.Core.Path.{◌≡◌, refl, sym, ◌∙◌}
 use mathlib.Core.Bool.{true}
 use mathlib.Core.List.{List}
-use mathlib.Core.Option.{Option}
+use Rattle.std.specs.Prelude.{Option}
 use lib.ListN.{length}
 use Rattle.tree.specs.Record.{row_at, path_at, no_rows, legal}
 use Rattle.paths.specs.Rules.{Spot, spot_at, better_spot, best_on_path, best_of_lines}

@@ -6,7 +6,7 @@ use native.Mathlib.Nat.{mod-eq_of_lt, mod-add-div, add-mul-mod_self_left, lt_of_
 use mathlib.Core.Path.{◌≡◌, refl, sym, ◌∙◌, ap}
 use mathlib.Core.Bool.{Bool, true, false, not, ◌&&◌, true≢false, and-eq-true_iff}
 use mathlib.Core.List.{List}
-use mathlib.Core.Option.{none, some}
+use Rattle.std.specs.Prelude.{None, Some}
 use lib.Dec.{eqb}
 use borrow.Author.Count.{below_none, below_more}
 use borrow.Author.Tests.{eqb-true, eq-eqb, ne_eqb}
@@ -92,10 +92,10 @@ module _ (rows : List ℕ) (L l : ℕ) {marks : List ℕ} (marks_present : Marks
               let is_present = some_below_at 64 (takes_edge rows L l k) M below (rw through (eq-eqb k k refl)) in
               ne_eqb (k % d) i (λ same. true≢false (sym is_present ∙ sym (marks_present.each k) ∙ edge_unmarked k (edge_of_node first below through) same))
 
-      pub class_free : class_on_path (path_at rows) (path_at rows L) l d ≡ some i
+      pub class_free : class_on_path (path_at rows) (path_at rows L) l d ≡ Some i
       unfolding class_on_path class_taken
       class_free = smallest_here searched class_below (ap not (some_below_none 64 _ line_elsewhere))
 
-pub no_class_free : (rows : List ℕ) (L l : ℕ) {d i : ℕ} → Classes rows L l d i → d ≤ i → class_on_path (path_at rows) (path_at rows L) l d ≡ none
+pub no_class_free : (rows : List ℕ) (L l : ℕ) {d i : ℕ} → Classes rows L l d i → d ≤ i → class_on_path (path_at rows) (path_at rows L) l d ≡ None
 unfolding class_on_path
 no_class_free rows L l classes past = smallest_nowhere classes past

@@ -5,7 +5,8 @@ use Prim.Native.Nat.{ℕ, ◌<◌}
 use mathlib.Core.Path.{◌≡◌, refl}
 use mathlib.Core.Bool.{Bool, true, false}
 use mathlib.Core.Logic.{inl}
-use mathlib.Core.Option.{Option, some, some_inj}
+use Rattle.std.specs.Prelude.{Option, Some}
+use Rattle.std.proofs.lemmas.Option.{same_Some}
 use lib.ListN.{length}
 use Rattle.tree.specs.Opening.{before}
 use Rattle.paths.specs.Rules.{Family, Spot, place_of, spot_at, better_spot, best_on_path, best_of_lines}
@@ -18,15 +19,15 @@ abbrev pub NoBetter : Option Spot → Option Spot → Type 0
 NoBetter q o = better_spot o q ≡ o
 
 -- no better than a candidate: its place does not come before
-pub no_better_place : (s b : Spot) → NoBetter (some s) (some b) → before (place_of s) (place_of b) ≡ false
+pub no_better_place : (s b : Spot) → NoBetter (Some s) (Some b) → before (place_of s) (place_of b) ≡ false
 unfolding better_spot
 no_better_place s b h = go (before (place_of s) (place_of b)) refl h
   where
-    go : (t : Bool) → before (place_of s) (place_of b) ≡ t → (if t then some s else some b) ≡ some b → before (place_of s) (place_of b) ≡ false
-    go true e k = rw (some_inj.0 k) (before_not_self (place_of b))
+    go : (t : Bool) → before (place_of s) (place_of b) ≡ t → (if t then Some s else Some b) ≡ Some b → before (place_of s) (place_of b) ≡ false
+    go true e k = rw (same_Some _ _ k) (before_not_self (place_of b))
     go false e k = e
 
-pub place_no_better : (s b : Spot) → before (place_of s) (place_of b) ≡ false → NoBetter (some s) (some b)
+pub place_no_better : (s b : Spot) → before (place_of s) (place_of b) ≡ false → NoBetter (Some s) (Some b)
 unfolding better_spot
 place_no_better s b h = rw h
 

@@ -5,7 +5,8 @@ use Prim.Native.Nat.{ℕ, zero, suc, ◌+◌, ◌<◌, ◌≤◌}
 use mathlib.Core.Path.{◌≡◌, refl, sym, ◌∙◌}
 use mathlib.Core.Bool.{Bool, true, false, false≢true, and-eq-true_iff}
 use mathlib.Core.List.{List, [], ◌∷◌}
-use mathlib.Core.Option.{Option, none, some, map, some-ne-none}
+use Rattle.std.specs.Prelude.{Option, None, Some, option_map}
+use Rattle.tree.proofs.Options.{some-none}
 use lib.Dec.{eqb}
 use lib.ListN.{take}
 use borrow.Author.Tests.{eqb-true}
@@ -65,7 +66,7 @@ lines_through_one rows is_legal l M L below earlier meet =
 
 -- what a node of step m and offset r at level l of line M's path offers, with divisor d: b says whether the step divides, and i is the class found
 offer : ℕ → ℕ → ℕ → ℕ → ℕ → Bool → Option ℕ → Option Spot
-offer M l m r d b i = if b then map (λ c. record { line = M; level = l; offset = r; step = m; divisor = d; class = c }) i else none
+offer M l m r d b i = if b then option_map (λ c. record { line = M; level = l; offset = r; step = m; divisor = d; class = c }) i else None
 
 same_class : (family : Family) (ps qs : List Row) (l d : ℕ) → same_node l ps qs ≡ true → class_on_path family ps l d ≡ class_on_path family qs l d
 unfolding class_on_path class_taken
@@ -75,9 +76,9 @@ same_class family ps qs l d meet = simp (same_node_either l ps qs meet)
 other_line : (M L l m r d : ℕ) (b : Bool) (i : Option ℕ) (o : Option Spot) → NoBetter (offer M l m r d b i) o → NoBetter (offer L l m r d b i) o
 unfolding offer place_of better_spot
 other_line M L l m r d false i o h = h
-other_line M L l m r d true none o h = h
-other_line M L l m r d true (some i) none h = absurd (some-ne-none _ h)
-other_line M L l m r d true (some i) (some s) h = place_no_better _ s (no_better_place _ s h)
+other_line M L l m r d true None o h = h
+other_line M L l m r d true (Some i) None h = absurd (some-none _ h)
+other_line M L l m r d true (Some i) (Some s) h = place_no_better _ s (no_better_place _ s h)
 
 same_offer : (family : Family) (p M L l : ℕ) → OneNode l (family M) (family L) → same_node l (family M) (family L) ≡ true → (o : Option Spot) → NoBetter (spot_at family p M l) o → NoBetter (spot_at family p L l) o
 unfolding spot_at spot_with offer

@@ -5,7 +5,8 @@ use Prim.Native.Nat.{ℕ, ◌/◌, ◌<◌}
 use mathlib.Core.Path.{◌≡◌, refl, sym, ap}
 use mathlib.Core.Bool.{Bool, true, false, true≢false}
 use mathlib.Core.List.{List}
-use mathlib.Core.Option.{Option, none, some, map, none-ne-some, some_inj}
+use Rattle.std.specs.Prelude.{Option, None, Some, option_map}
+use Rattle.std.proofs.lemmas.Option.{none-some, same_Some}
 use lib.Dec.{ltb}
 use lib.ListN.{length}
 use Rattle.tree.specs.Numbers.{divides, gcd}
@@ -33,20 +34,20 @@ module _ (rows : List ℕ) (p L l m r : ℕ) where
 
     -- and x the class found
     module _ {x : Class} (found : class_of x ≡ class_on_path (path_at rows) (path_at rows L) l d) where
-      pub spot_full : x ≡ Full → spot_with (path_at rows) p L l m r ≡ none
+      pub spot_full : x ≡ Full → spot_with (path_at rows) p L l m r ≡ None
       unfolding spot_with class_of
       spot_full full = rw (divided, divisor_is, ← found, full)
 
-      pub spot_free : (i : ℕ) → x ≡ Free i → spot_with (path_at rows) p L l m r ≡ some (record { line = L; level = l; offset = r; step = m; divisor = d; class = i })
+      pub spot_free : (i : ℕ) → x ≡ Free i → spot_with (path_at rows) p L l m r ≡ Some (record { line = L; level = l; offset = r; step = m; divisor = d; class = i })
       unfolding spot_with class_of
       spot_free i free = rw (divided, divisor_is, ← found, free)
 
-pub step_not_dividing : (family : Family) (p M l m r : ℕ) → divides m p ≡ false → spot_with family p M l m r ≡ none
+pub step_not_dividing : (family : Family) (p M l m r : ℕ) → divides m p ≡ false → spot_with family p M l m r ≡ None
 unfolding spot_with
 step_not_dividing family p M l m r other = rw other
 
 -- what a node offers is at the node's place
-pub spot_with_place : (family : Family) (p M l m r : ℕ) (s : Spot) → spot_with family p M l m r ≡ some s → place_of s ≡ record { level = l; offset = r }
+pub spot_with_place : (family : Family) (p M l m r : ℕ) (s : Spot) → spot_with family p M l m r ≡ Some s → place_of s ≡ record { level = l; offset = r }
 unfolding spot_with place_of
 spot_with_place family p M l m r s h = go (divides m p) (class_on_path family (family M) l d) h
   where
@@ -56,30 +57,30 @@ spot_with_place family p M l m r s h = go (divides m p) (class_on_path family (f
     here : ℕ → Spot
     here i = record { line = M; level = l; offset = r; step = m; divisor = d; class = i }
 
-    go : (b : Bool) (o : Option ℕ) → (if b then map here o else none) ≡ some s → place_of s ≡ record { level = l; offset = r }
-    go true none e = absurd (none-ne-some s e)
-    go true (some i) e = ap place_of (some_inj.0 (sym e))
-    go false o e = absurd (none-ne-some s e)
+    go : (b : Bool) (o : Option ℕ) → (if b then option_map here o else None) ≡ Some s → place_of s ≡ record { level = l; offset = r }
+    go true None e = absurd (none-some s e)
+    go true (Some i) e = ap place_of (same_Some _ _ (sym e))
+    go false o e = absurd (none-some s e)
 
 -- The better of two
 
 -- where the place does not come first, nothing found there is better
-pub stays_best : (a : Place) (o q : Option Spot) → comes_first a o ≡ false → ((s : Spot) → q ≡ some s → place_of s ≡ a) → better_spot o q ≡ o
+pub stays_best : (a : Place) (o q : Option Spot) → comes_first a o ≡ false → ((s : Spot) → q ≡ Some s → place_of s ≡ a) → better_spot o q ≡ o
 unfolding comes_first better_spot
-stays_best a none q later at_place = absurd (true≢false later)
-stays_best a (some b) none later at_place = refl
-stays_best a (some b) (some s) later at_place = rw (at_place s refl, later)
+stays_best a None q later at_place = absurd (true≢false later)
+stays_best a (Some b) None later at_place = refl
+stays_best a (Some b) (Some s) later at_place = rw (at_place s refl, later)
 
 -- where it does, whatever is found there is better
-pub becomes_best : (a : Place) (o : Option Spot) (s : Spot) → comes_first a o ≡ true → place_of s ≡ a → better_spot o (some s) ≡ some s
+pub becomes_best : (a : Place) (o : Option Spot) (s : Spot) → comes_first a o ≡ true → place_of s ≡ a → better_spot o (Some s) ≡ Some s
 unfolding comes_first better_spot
-becomes_best a none s first at_place = refl
-becomes_best a (some b) s first at_place = rw (at_place, first)
+becomes_best a None s first at_place = refl
+becomes_best a (Some b) s first at_place = rw (at_place, first)
 
-pub better_than_none : (o : Option Spot) → better_spot o none ≡ o
+pub better_than_none : (o : Option Spot) → better_spot o None ≡ o
 unfolding better_spot
-better_than_none none = refl
-better_than_none (some b) = refl
+better_than_none None = refl
+better_than_none (Some b) = refl
 
 -- Whether a place comes first, as the code finds it
 

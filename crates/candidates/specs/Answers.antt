@@ -1,7 +1,7 @@
 -- What the searches of this crate answer, as the definitions over paths have it (crate paths, specs/Rules.antt).
 -- Assumes nothing.
 use Rattle.std.specs.Prelude.{ℕ, ◌≤◌, ◌≡◌, Bool, true, length, take}
-use Rattle.std.proofs.Math.Option.{Option, none, some}
+use Rattle.std.specs.Prelude.{Option, None, Some}
 use Rattle.tree.specs.Search.{some_below}
 use Rattle.tree.specs.Tree.{product, sum, Place}
 use Rattle.tree.specs.Opening.{before}
@@ -14,8 +14,8 @@ use Rattle.candidates.specs.declared.Chosen.TheVariants.{At, Nothing}
 
 -- the free class that was found
 unfoldable pub class_of : Class → Option ℕ
-class_of (Free i) = some i
-class_of Full = none
+class_of (Free i) = Some i
+class_of Full = None
 
 -- a candidate of the code as one of the definitions
 abbrev pub spot_in : FoundSpot → Spot
@@ -31,13 +31,13 @@ spot_in s =
 
 -- the candidate that was found
 unfoldable pub spot_of : Chosen → Option Spot
-spot_of (At s) = some (spot_in s)
-spot_of Nothing = none
+spot_of (At s) = Some (spot_in s)
+spot_of Nothing = None
 
 -- a place comes before the best so far, or there is none so far
 unfoldable pub comes_first : Place → Option Spot → Bool
-comes_first a none = true
-comes_first a (some s) = before a (place_of s)
+comes_first a None = true
+comes_first a (Some s) = before a (place_of s)
 
 -- a line of smaller number than L goes through the node at level l of line L's path
 unfoldable pub seen_earlier : Family → ℕ → ℕ → Bool

@@ -6,7 +6,7 @@ use native.Mathlib.Omega.{arith}
 use mathlib.Core.Path.{◌≡◌, refl, ◌∙◌, ap}
 use mathlib.Core.Bool.{Bool, true, false, not}
 use mathlib.Core.List.{List}
-use mathlib.Core.Option.{Option, none, some}
+use Rattle.std.specs.Prelude.{Option, None, Some}
 use lib.IntN.{ℤ, negsuc}
 use lib.ListN.{length}
 use mir.Syntax.{Width, w8, w16, w32, w64, w128}
@@ -94,16 +94,16 @@ refused_in_range n small = (omega (arith, small.0), omega (arith, small.1))
 
 value_in_range : (o : Option ℕ) (n : ℕ) → Small o → n < 2 ^ 32 → InRange (gives_unless o n)
 unfolding Small InRange gives_unless
-value_in_range none n small most = most
-value_in_range (some k) n small most = refused_in_range k small
+value_in_range None n small most = most
+value_in_range (Some k) n small most = refused_in_range k small
 
 zero_in_range : {A : Type 0} (o : Option ℕ) (a : A) → Small o → InRange (zero_value (gives_unless o a))
 unfolding Small InRange zero_value gives_unless
-zero_in_range none a small = omega arith
-zero_in_range (some k) a small = refused_in_range k small
+zero_in_range None a small = omega arith
+zero_in_range (Some k) a small = refused_in_range k small
 
 -- a start is below 4,095, the largest period
-reply_in_range : (c : Call) (t : Tree) → Legal t → refusal c t ≡ none → InRange (change_outcome (reply c t))
+reply_in_range : (c : Call) (t : Tree) → Legal t → refusal c t ≡ None → InRange (change_outcome (reply c t))
 unfolding InRange refusal reply change_outcome
 reply_in_range (open_line L p) t is_legal allowed =
     let may = open_may L p t is_legal allowed in
@@ -116,8 +116,8 @@ unfolding Small answer answer_unless change_outcome
 change_in_range c t is_legal = by_refusal (refusal c t) refl (refusal_small c t)
   where
     by_refusal : (o : Option ℕ) → refusal c t ≡ o → Small o → InRange (change_outcome (answer_unless o (reply c t)))
-    by_refusal none e small = reply_in_range c t is_legal e
-    by_refusal (some n) e small = refused_in_range n small
+    by_refusal None e small = reply_in_range c t is_legal e
+    by_refusal (Some n) e small = refused_in_range n small
 
 owner_in_range : (round : ℕ) (t : Tree) → Legal t → InRange (gives (owner_value (owner_or_rest round t)))
 unfolding InRange

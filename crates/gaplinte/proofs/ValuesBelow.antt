@@ -5,7 +5,7 @@ use Prim.Native.Nat.{ℕ, zero, suc, ◌<◌, ◌≤◌}
 use native.Mathlib.Omega.{arith}
 use mathlib.Core.Path.{◌≡◌, refl, ◌∙◌, ap}
 use mathlib.Core.Bool.{Bool, true, false}
-use mathlib.Core.Option.{Option, none, some}
+use Rattle.std.specs.Prelude.{Option, None, Some}
 use Rattle.tree.specs.Tree.{Tree}
 use Rattle.tree.specs.Shape.{Legal}
 use Rattle.tree.specs.Asking.{owner, rest, OwnerOrRest, or_rest, owner_or_rest, turns}
@@ -24,8 +24,8 @@ use Rattle.gaplinte.specs.Served.{owner_value}
 -- what a call gives is what it would give if it were not refused
 given_value : {A : Type 0} (refusal : Option ℕ) (a b : A) → gives b ≡ gives_unless refusal a → b ≡ a
 unfolding gives_unless
-given_value none a b given = cc
-given_value (some n) a b given = let z : ◌≡◌ {A = ℕ} 0 1 = cc in absurd (omega arith)
+given_value None a b given = cc
+given_value (Some n) a b given = let z : ◌≡◌ {A = ℕ} 0 1 = cc in absurd (omega arith)
 
 -- the value of owner and of the walker is a line, or 64 and a rest of at most 4,094
 pub owner_at_most : (round : ℕ) (t : Tree) → Legal t → owner_value (owner_or_rest round t) ≤ 4158
@@ -33,8 +33,8 @@ unfolding owner_or_rest or_rest owner_value
 owner_at_most round t is_legal = by_owner (owner round t) refl
   where
     by_owner : (o : Option ℕ) → owner round t ≡ o → owner_value (or_rest o (rest round t)) ≤ 4158
-    by_owner none idle = omega (arith, rest_at_most t is_legal round)
-    by_owner (some L) owned = omega (arith, owner_below_64 round t L is_legal owned)
+    by_owner None idle = omega (arith, rest_at_most t is_legal round)
+    by_owner (Some L) owned = omega (arith, owner_below_64 round t L is_legal owned)
 
 pub owner_given : (round : ℕ) (t : Tree) (o : OwnerOrRest) → Legal t → o ≡ owner_or_rest round t → owner_value o ≤ 4158
 owner_given round t o is_legal given = rw given (owner_at_most round t is_legal)

@@ -5,7 +5,7 @@ use native.Mathlib.Omega.{arith}
 use mathlib.Core.Path.{◌≡◌, refl, sym, ◌∙◌, ap, subst}
 use mathlib.Core.List.{List, [], ◌∷◌}
 use mathlib.Core.Logic.{◌↔◌}
-use mathlib.Core.Option.{Option, none, some}
+use Rattle.std.specs.Prelude.{Option, None, Some}
 use Rattle.tree.specs.declared.Plan.{Plan}
 use Rattle.tree.specs.Tree.{Tree, nothing}
 use Rattle.tree.specs.Asking.{owned_by, owner_or_rest}
@@ -33,9 +33,9 @@ returned_is_handed_on c plan a returned meets =
     by_refusal : (k : Call) (o : Option ℕ) →
         handed_on (answer_unless o (reply k (tree_of plan))) plan (plan_unless o plan (record_of (carried_out k (tree_of plan))))
         ≡ plan_unless o plan (record_of (carried_out k (tree_of plan)))
-    by_refusal k (some n) = refl
-    by_refusal (open_line L p) none = refl
-    by_refusal (close_line L) none = refl
+    by_refusal k (Some n) = refl
+    by_refusal (open_line L p) None = refl
+    by_refusal (close_line L) None = refl
 
 -- Along a list
 

@@ -5,7 +5,7 @@ use native.Mathlib.Omega.{arith}
 use mathlib.Core.Path.{◌≡◌, refl, sym, ◌∙◌, ap, subst}
 use mathlib.Core.Logic.{◌↔◌}
 use mathlib.Core.List.{List, [], ◌∷◌}
-use mathlib.Core.Option.{Option, none, some}
+use Rattle.std.specs.Prelude.{Option, None, Some}
 use lib.IntN.{ℤ, pos, neg_ℤ}
 use lib.ListN.{replicate}
 use Rattle.tree.specs.declared.Plan.{Plan}
@@ -44,8 +44,8 @@ unfolding Small answer answer_unless answer_number change_outcome
 answer_is_told c t = by_refusal (refusal c t) (refusal_small c t)
   where
     by_refusal : (o : Option ℕ) → Small o → answer_told c (answer_number (change_outcome (answer_unless o (reply c t)))) ≡ answer_unless o (reply c t)
-    by_refusal none small = reply_is_told c t
-    by_refusal (some n) small = refusal_is_told c n small.0
+    by_refusal None small = reply_is_told c t
+    by_refusal (Some n) small = refusal_is_told c n small.0
 
 pub served_is_carried_out : (c : Call) (before after : List ℕ) (r : ℤ) → ChangeServed c before after r → CarriedOut c before after (answer_told c r)
 served_is_carried_out c before after r served =

@@ -7,7 +7,7 @@ use native.Mathlib.Numerals.{add-one}
 use native.Mathlib.Omega.{arith}
 use mathlib.Core.Path.{◌≡◌, refl, sym, ◌∙◌, ap, subst}
 use mathlib.Core.List.{List, [], ◌∷◌, ◌++◌, append_assoc}
-use mathlib.Core.Option.{Option, none, some}
+use Rattle.std.specs.Prelude.{Option, None, Some}
 use lib.Dec.{ltb}
 use lib.ListN.{length, drop, get_or, set, length-append, length-set}
 use lib.Seq.{drop-cons, set_at}
@@ -166,8 +166,8 @@ meets_carried c plan a after meets =
     record { answer_is = meets.answer_is; rows_are = ap (λ (x : Plan). x.rows) meets.plan_is ∙ by_refusal (refusal c (tree_of plan)) }
   where
     by_refusal : (o : Option ℕ) → (plan_unless o plan (record_of (carried_out c (tree_of plan)))).rows ≡ rows_unless o plan.rows (record_of (carried_out c (tree_of plan))).rows
-    by_refusal (some n) = refl
-    by_refusal none = refl
+    by_refusal (Some n) = refl
+    by_refusal None = refl
 
 -- 4,096 stands for every period above 4,095
 pub opened_as_asked : (L p : ℕ) (plan : Plan) (a : Answer) (after : Plan) →

@@ -5,7 +5,7 @@ use Prim.Native.Nat.{ℕ, ◌+◌}
 use mathlib.Core.Path.{◌≡◌, sym, ◌∙◌, ap, subst}
 use mathlib.Core.Bool.{true, false, true≢false, not-eq-not}
 use mathlib.Core.List.{List}
-use mathlib.Core.Option.{some}
+use Rattle.std.specs.Prelude.{Some}
 use Rattle.tree.specs.Search.{found}
 use Rattle.tree.specs.Tree.{Tree, present}
 use Rattle.tree.specs.Shape.{Legal}
@@ -51,10 +51,10 @@ module _ (entries : List Entry) (t : Tree) (is_legal : Legal t) (claim : Demand3
       let zero_where_empty = rest_0_exactly t is_legal round idle.0 in
       record {
         zero_exactly = (
-          λ zero_rest some. absurd (true≢false (sym (not_empty some) ∙ zero_where_empty.0 (idle.1 ∙ zero_rest))),
+          λ zero_rest Some. absurd (true≢false (sym (not_empty Some) ∙ zero_where_empty.0 (idle.1 ∙ zero_rest))),
           λ none_open. sym idle.1 ∙ zero_where_empty.1 (no_line none_open),
         );
-        next_owned = λ some. fitting (round + g) (found_some (owner (round + g) t) (is_rest.next_owned (not_empty some)));
+        next_owned = λ Some. fitting (round + g) (found_some (owner (round + g) t) (is_rest.next_owned (not_empty Some)));
         none_before = λ k less L b entered fits. true≢false (sym (ap found ((claim.ownership (round + k) L).1 (b, entered, fits))) ∙ is_rest.none_before k less);
         at_most = rw idle.1 at (rest_at_most t is_legal round);
       }
@@ -62,7 +62,7 @@ module _ (entries : List Entry) (t : Tree) (is_legal : Legal t) (claim : Demand3
       no_line : (SomeOpen (ledger_of entries) → ⊥) → present t ≡ false
       no_line none_open = not-eq-not.0 (λ here. none_open (some_open here))
 
-      fitting : (n : ℕ) → (L : ℕ) × (owner n t ≡ some L) → (L : ℕ) × (b : Booking) × (ledger_of entries L ≡ some b) × RoundFits n b
+      fitting : (n : ℕ) → (L : ℕ) × (owner n t ≡ Some L) → (L : ℕ) × (b : Booking) × (ledger_of entries L ≡ Some b) × RoundFits n b
       fitting n x = let fits = (claim.ownership n x.0).0 x.1 in (x.0, fits.0, fits.1, fits.2)
 
   pub demand_3_tells_rest : (round : ℕ) (a : OwnerAnswer) → owner_answer a ≡ owner_or_rest round t → TellsRest entries round a

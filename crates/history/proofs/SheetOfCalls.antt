@@ -8,7 +8,8 @@ use mathlib.Core.Path.{◌≡◌, refl, sym, ◌∙◌, ap}
 use mathlib.Core.Logic.{◌↔◌}
 use mathlib.Core.Bool.{Bool, true, false, not, false≢true, not-eq-not}
 use mathlib.Core.List.{List, [], ◌∷◌}
-use mathlib.Core.Option.{Option, none, some, none-ne-some}
+use Rattle.std.specs.Prelude.{Option, None, Some}
+use Rattle.std.proofs.lemmas.Option.{none-some}
 use lib.ListN.{get_or-eq_default}
 use lib.Seq.{take_at, get_or_at}
 use borrow.Author.Tests.{eqb-true, eq-eqb}
@@ -38,10 +39,10 @@ use Rattle.history.proofs.Demand3OfRows.{demand_3_of_rows}
 use Rattle.history.proofs.Demand3OfLibrary.{demand_3_of_library}
 
 -- the test says that the line is open and the round fits it
-pub fits_exactly : (n : ℕ) (o : Option Booking) → (fits n o ≡ true) ↔ ((b : Booking) × (o ≡ some b) × RoundFits n b)
+pub fits_exactly : (n : ℕ) (o : Option Booking) → (fits n o ≡ true) ↔ ((b : Booking) × (o ≡ Some b) × RoundFits n b)
 unfolding fits RoundFits
-fits_exactly n none = (λ h. absurd (false≢true h), λ x. absurd (none-ne-some x.0 x.1))
-fits_exactly n (some c) =
+fits_exactly n None = (λ h. absurd (false≢true h), λ x. absurd (none-some x.0 x.1))
+fits_exactly n (Some c) =
     (λ h. (c, refl, eqb-true (n % c.period) c.start h), λ x. let same : c ≡ x.0 = cc in rw same (eq-eqb (n % x.0.period) x.0.start x.2))
 
 -- Where demand 3 holds of a list and the tree that it left
@@ -62,9 +63,9 @@ module _ (entries : List Entry) (t : Tree) (is_legal : Legal t) (claim : Demand3
   owned_by_ledger n = by_owner (owner n t) refl
     where
       by_owner : (o : Option ℕ) → owner n t ≡ o → found o ≡ some_below 64 (λ L. fits n (ledger_of entries L))
-      by_owner none idle = sym (some_below_none 64 _ (λ L below. not-eq-not.0 (λ fitting.
-          none-ne-some L (sym idle ∙ (claim.ownership n L).1 ((fits_exactly n (ledger_of entries L)).0 fitting)))))
-      by_owner (some M) named = sym (some_below_at 64 _ M (owner_below_64 n t M is_legal named) ((fits_exactly n (ledger_of entries M)).1 ((claim.ownership n M).0 named)))
+      by_owner None idle = sym (some_below_none 64 _ (λ L below. not-eq-not.0 (λ fitting.
+          none-some L (sym idle ∙ (claim.ownership n L).1 ((fits_exactly n (ledger_of entries L)).0 fitting)))))
+      by_owner (Some M) named = sym (some_below_at 64 _ M (owner_below_64 n t M is_legal named) ((fits_exactly n (ledger_of entries M)).1 ((claim.ownership n M).0 named)))
 
   module _ (a N : ℕ) where
     abbrev listed : Sheet
@@ -79,7 +80,7 @@ module _ (entries : List Entry) (t : Tree) (is_legal : Legal t) (claim : Demand3
     unfolding turns_on sheet
     nothing_listed L above = get_or-eq_default listed.turns 0 (omega (arith, each_below_length 64 (λ M. line_turns M a N t)))
 
-    closed_counted : (L : ℕ) → ledger_of entries L ≡ none → count_below N (λ i. fits (a + i) (ledger_of entries L)) ≡ 0
+    closed_counted : (L : ℕ) → ledger_of entries L ≡ None → count_below N (λ i. fits (a + i) (ledger_of entries L)) ≡ 0
     unfolding fits
     closed_counted L closed = count_none N _ (λ i. rw closed)
 
@@ -90,7 +91,7 @@ module _ (entries : List Entry) (t : Tree) (is_legal : Legal t) (claim : Demand3
           | no beyond ↦ nothing_listed L (omega arith) ∙ sym (closed_counted L (claim.line_range L (omega arith)))
         ]
 
-    closed_0 : (L : ℕ) → ledger_of entries L ≡ none → turns_on listed L ≡ 0
+    closed_0 : (L : ℕ) → ledger_of entries L ≡ None → turns_on listed L ≡ 0
     closed_0 L closed = turns_by_ledger L ∙ closed_counted L closed
 
     idle_by_ledger : listed.idle ≡ count_below N (λ i. not (some_below 64 (λ L. fits (a + i) (ledger_of entries L))))
@@ -103,8 +104,8 @@ module _ (entries : List Entry) (t : Tree) (is_legal : Legal t) (claim : Demand3
     open_alone L = by_ledger (ledger_of entries L) refl
       where
         by_ledger : (o : Option Booking) → ledger_of entries L ≡ o → (if found o then turns_on listed L else 0) ≡ turns_on listed L
-        by_ledger none closed = sym (closed_0 L closed)
-        by_ledger (some b) entered = refl
+        by_ledger None closed = sym (closed_0 L closed)
+        by_ledger (Some b) entered = refl
 
     all_together : total_below 64 (λ L. if found (ledger_of entries L) then turns_on listed L else 0) + listed.idle ≡ N
     unfolding sheet_total

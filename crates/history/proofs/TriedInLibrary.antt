@@ -6,7 +6,7 @@ use native.Mathlib.Omega.{arith}
 use mathlib.Core.Path.{◌≡◌, refl, ap}
 use mathlib.Core.Bool.{Bool, true, false}
 use mathlib.Core.List.{List}
-use mathlib.Core.Option.{Option, none, some}
+use Rattle.std.specs.Prelude.{Option, None, Some}
 use lib.Dec.{eqb}
 use lib.IntN.{pos, neg_ℤ}
 use Rattle.tree.specs.Refusals.{open_refusal}
@@ -42,8 +42,8 @@ outcome_is_told L p rows lent = by_refusal (open_refusal L p (tree_of_rows rows)
   where
     by_refusal : (o : Option ℕ) → Small o →
         let told = gives_unless o (trial L p (tree_of_rows rows)) in tried_told (answer_number (zero_value told)) (numbers_or tried_numbers lent told) ≡ told
-    by_refusal none small = figures_are_told (trial L p (tree_of_rows rows))
-    by_refusal (some n) small = refusal_is_told n lent small.0
+    by_refusal None small = figures_are_told (trial L p (tree_of_rows rows))
+    by_refusal (Some n) small = refusal_is_told n lent small.0
 
 -- The open after it
 

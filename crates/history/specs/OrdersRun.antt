@@ -2,7 +2,7 @@
 -- What the list leaves in the plan and in the lent bytes is what its contract allows (`ListRan` of crate lists).
 -- Assumes nothing.
 use Rattle.std.specs.Prelude.{ℕ, ◌*◌, ◌≡◌, List, [], ◌∷◌, ◌++◌, length, drop}
-use Rattle.std.proofs.Math.Option.{none}
+use Rattle.std.specs.Prelude.{None}
 use Rattle.tree.specs.declared.Plan.{Plan}
 use Rattle.tree.specs.declared.Sheet.{Sheet}
 use Rattle.tree.specs.Asking.{owner_or_rest}
@@ -47,4 +47,4 @@ pub record Demand3OfOrders (orders lent : List ℕ) (after : Plan) (written : Li
 -- Demand 3 of every list of orders that is not refused.
 unfoldable pub Demand3OfLists : Type 0
 Demand3OfLists =
-    (orders lent : List ℕ) (after : Plan) (written : List ℕ) → ListRan empty_plan orders lent none after written → Demand3OfOrders orders lent after written
+    (orders lent : List ℕ) (after : Plan) (written : List ℕ) → ListRan empty_plan orders lent None after written → Demand3OfOrders orders lent after written

@@ -3,7 +3,7 @@
 -- idle round after such a list (document 02, Ask 4).
 -- Assumes nothing.
 use Rattle.std.specs.Prelude.{ℕ, ◌+◌, ◌<◌, ◌≤◌, ◌≡◌, ◌↔◌, List, [], ◌∷◌}
-use Rattle.std.proofs.Math.Option.{some}
+use Rattle.std.specs.Prelude.{Some}
 use Rattle.tree.specs.declared.Plan.{Plan}
 use Rattle.tree.specs.Calls.{Answer, booked, done, refused}
 use Rattle.tree.specs.Asking.{owner_or_rest}
@@ -33,7 +33,7 @@ Demand3OfCalls = (entries : List Entry) (plan : Plan) → Ran empty_plan entries
 
 -- An answer of the owner call names line L exactly when the ledger has L open and the round fits it.
 unfoldable pub NamesOwner : List Entry → ℕ → OwnerAnswer → Type 0
-NamesOwner entries round a = (L : ℕ) → (a ≡ Line L) ↔ ((b : Booking) × (ledger_of entries L ≡ some b) × RoundFits round b)
+NamesOwner entries round a = (L : ℕ) → (a ≡ Line L) ↔ ((b : Booking) × (ledger_of entries L ≡ Some b) × RoundFits round b)
 
 -- (The lists of demand 3, 19) The owner call is put to the plan that the list leaves: so it is with each answer that its contract allows.
 unfoldable pub OwnerOfCalls : Type 0
@@ -46,9 +46,9 @@ pub record RestsFor (entries : List Entry) (round g : ℕ) : Type 0 where
   -- 0 exactly when no line is open
   pub zero_exactly : (g ≡ 0) ↔ (SomeOpen (ledger_of entries) → ⊥)
   -- where one is, the round after so many fits an open line
-  pub next_owned : SomeOpen (ledger_of entries) → (L : ℕ) × (b : Booking) × (ledger_of entries L ≡ some b) × RoundFits (round + g) b
+  pub next_owned : SomeOpen (ledger_of entries) → (L : ℕ) × (b : Booking) × (ledger_of entries L ≡ Some b) × RoundFits (round + g) b
   -- and no round before that one does
-  pub none_before : (k : ℕ) → k < g → (L : ℕ) (b : Booking) → ledger_of entries L ≡ some b → RoundFits (round + k) b → ⊥
+  pub none_before : (k : ℕ) → k < g → (L : ℕ) (b : Booking) → ledger_of entries L ≡ Some b → RoundFits (round + k) b → ⊥
   pub at_most : g ≤ 4094
 
 -- An idle answer of the owner call tells that rest.

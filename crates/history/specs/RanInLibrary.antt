@@ -2,7 +2,7 @@
 -- What a call answers and leaves in the record is what its contract allows (`ChangeServed` of crate gaplinte). The claim itself is `Demand3` of crate tree.
 -- Assumes nothing.
 use Rattle.std.specs.Prelude.{ℕ, suc, ◌+◌, ◌≤◌, ◌≡◌, ◌↔◌, List, [], ◌∷◌, ℤ, pos, negsuc, replicate}
-use Rattle.std.proofs.Math.Option.{some}
+use Rattle.std.specs.Prelude.{Some}
 use Rattle.tree.specs.Calls.{Call, open_line, close_line, Answer, booked, done, refused}
 use Rattle.tree.specs.Lists.{Booking, Entry, ledger_of, RoundFits}
 use Rattle.tree.specs.Demand3.{Demand3}
@@ -44,7 +44,7 @@ unfoldable pub OwnerOfLibrary : Type 0
 OwnerOfLibrary =
     (calls : List Answered) (rows : List ℕ) → RanInLibrary (replicate 1408 0) calls rows →
     (round : ℕ) (r : ℤ) → r ≡ answer_number (owner_outcome round rows) →
-    (L : ℕ) → ((r ≡ pos L) × (L ≤ 63)) ↔ ((b : Booking) × (ledger_of (entries_told calls) L ≡ some b) × RoundFits round b)
+    (L : ℕ) → ((r ≡ pos L) × (L ≤ 63)) ↔ ((b : Booking) × (ledger_of (entries_told calls) L ≡ Some b) × RoundFits round b)
 
 -- (Ask 4, 4) And where its number is 64 or more, that number less 64 is the rest.
 unfoldable pub RestOfLibrary : Type 0

@@ -2,7 +2,7 @@
 -- What a list leaves and what the sheet call answers is what their contracts allow.
 -- Assumes nothing.
 use Rattle.std.specs.Prelude.{ℕ, ◌+◌, ◌%◌, ◌≡◌, Bool, false, not, List, eqb, ℤ, get_or, take, replicate, if◌then◌else◌}
-use Rattle.std.proofs.Math.Option.{Option, none, some}
+use Rattle.std.specs.Prelude.{Option, None, Some}
 use Rattle.tree.specs.declared.Plan.{Plan}
 use Rattle.tree.specs.declared.Sheet.{Sheet}
 use Rattle.tree.specs.Search.{found, some_below, total_below, count_below}
@@ -18,14 +18,14 @@ use Rattle.history.specs.RanInLibrary.{Answered, entries_told, RanInLibrary}
 
 -- (The lists of demand 3, 18) A test: round n fits the line of which the ledger has this (`RoundFits`). No round fits a closed line.
 unfoldable pub fits : ℕ → Option Booking → Bool
-fits n none = false
-fits n (some b) = eqb (n % b.period) b.start
+fits n None = false
+fits n (Some b) = eqb (n % b.period) b.start
 
 -- (Ask 5, 1, 3) By the ledger, these are the figures of the N rounds that begin with a.
 pub record SheetFor (entries : List Entry) (a N : ℕ) (s : Sheet) : Type 0 where
   -- the turns of a line are the rounds that fit it; a closed one has 0
   pub turns_are : (L : ℕ) → turns_on s L ≡ count_below N (λ i. fits (a + i) (ledger_of entries L))
-  pub closed_has_0 : (L : ℕ) → ledger_of entries L ≡ none → turns_on s L ≡ 0
+  pub closed_has_0 : (L : ℕ) → ledger_of entries L ≡ None → turns_on s L ≡ 0
   -- the idle rounds are those that fit no line
   pub idle_are : s.idle ≡ count_below N (λ i. not (some_below 64 (λ L. fits (a + i) (ledger_of entries L))))
   -- the turns over all open lines plus the idle rounds make N

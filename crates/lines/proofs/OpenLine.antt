@@ -6,7 +6,7 @@ use native.Mathlib.Omega.{arith}
 use mathlib.Core.Path.{◌≡◌, refl, ◌∙◌, ap, ap₂}
 use mathlib.Core.Bool.{Bool, true, false, not}
 use mathlib.Core.List.{List, [], ◌∷◌}
-use mathlib.Core.Option.{none, some}
+use Rattle.std.specs.Prelude.{None, Some}
 use lib.Dec.{ltb}
 use lib.ListN.{length, take, length-take}
 use Rattle.tree.specs.declared.Row.{Row}
@@ -46,12 +46,12 @@ module _ {rows : List ℕ} {end : ℕ} (lines : EndOfLines rows end) where
   pub root_found : end ≡ 0 → ClosedFrom rows 0
   root_found is_0 = rw is_0 at lines.closed_from
 
-  pub no_room_found : (p : ℕ) → legal rows ≡ true → (end ≡ 0 → ⊥) → best_of_lines (path_at rows) p 64 ≡ none → no_room p (tree_of_rows rows) ≡ true
+  pub no_room_found : (p : ℕ) → legal rows ≡ true → (end ≡ 0 → ⊥) → best_of_lines (path_at rows) p 64 ≡ None → no_room p (tree_of_rows rows) ≡ true
   no_room_found p is_legal some_open none_found =
       let below = lines.closed_from.within in
       no_room_on rows p (end - 1) is_legal (omega arith) (lines.last_open (end - 1) (omega arith)) none_found
 
-pub open_again : (rows : List ℕ) (L p : ℕ) → legal rows ≡ true → L ≤ 63 → period_out_of_range p ≡ false → no_rows (path_at rows L) ≡ false → open_refusal L p (tree_of_rows rows) ≡ some 3
+pub open_again : (rows : List ℕ) (L p : ℕ) → legal rows ≡ true → L ≤ 63 → period_out_of_range p ≡ false → no_rows (path_at rows L) ≡ false → open_refusal L p (tree_of_rows rows) ≡ Some 3
 open_again rows L p is_legal number inside there =
     open_refused_3 L p (tree_of_rows rows) number inside (open_on_record rows is_legal L (omega arith) ∙ ap not there)
 
@@ -67,7 +67,7 @@ checked_if_bookable rows L p ready (At s) searched = record { bookable = ready; 
 
 -- what was found, case by case
 module _ (rows : List ℕ) (L p : ℕ) {o : CheckedOpen} (checked : OpenChecked rows L p o) where
-  pub checked_refusal : {n : ℕ} → o ≡ Refused n → open_refusal L p (tree_of_rows rows) ≡ some n
+  pub checked_refusal : {n : ℕ} → o ≡ Refused n → open_refusal L p (tree_of_rows rows) ≡ Some n
   unfolding OpenChecked
   checked_refusal told = rw told at checked
 
@@ -143,7 +143,7 @@ module _ (rows : List ℕ) (L p : ℕ) (s : Spot) (ready_at : BookableAt rows L 
   -- the line through the node is another one
   other_line : s.line ≡ L → ⊥
   other_line same =
-      let none : length (path_at rows s.line) ≡ 0 = ap (λ (M : ℕ). length (path_at rows M)) same ∙ ap length (no_rows_empty (path_at rows L) ready.absent) in
+      let None : length (path_at rows s.line) ≡ 0 = ap (λ (M : ℕ). length (path_at rows M)) same ∙ ap length (no_rows_empty (path_at rows L) ready.absent) in
       let below = found_spot.level_below in
       omega arith
 

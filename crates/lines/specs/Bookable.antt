@@ -1,7 +1,7 @@
 -- What the booking of a line rests on.
 -- Assumes nothing.
 use Rattle.std.specs.Prelude.{ℕ, ◌<◌, ◌≤◌, ◌≡◌, true, false, List, ltb, length, if◌then◌else◌}
-use Rattle.std.proofs.Math.Option.{some}
+use Rattle.std.specs.Prelude.{Some}
 use Rattle.tree.specs.Refusals.{period_out_of_range}
 use Rattle.tree.specs.Record.{path_at, no_rows, legal}
 use Rattle.paths.specs.Rules.{row_of, Spot, best_of_lines, split_lines}
@@ -17,7 +17,7 @@ pub record Bookable (rows : List ℕ) (L p : ℕ) : Type 0 where
 -- and whose search found this spot
 pub record BookableAt (rows : List ℕ) (L p : ℕ) (s : Spot) : Type 0 where
   pub bookable : Bookable rows L p
-  pub found_one : best_of_lines (path_at rows) p 64 ≡ some s
+  pub found_one : best_of_lines (path_at rows) p 64 ≡ Some s
 
 -- a node that can be split by d where d is below its weight
 pub record SplittableIfSmaller (rows : List ℕ) (L l d : ℕ) : Type 0 where

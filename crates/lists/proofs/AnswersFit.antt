@@ -5,7 +5,7 @@ use Prim.Native.Nat.{ℕ, ◌<◌}
 use native.Mathlib.Omega.{arith}
 use mathlib.Core.Path.{◌≡◌, refl}
 use mathlib.Core.Bool.{Bool, true, false, not}
-use mathlib.Core.Option.{Option, none, some}
+use Rattle.std.specs.Prelude.{Option, None, Some}
 use Rattle.tree.specs.Tree.{Tree, is_open}
 use Rattle.tree.specs.Shape.{Legal}
 use Rattle.tree.specs.Opening.{opened, start_given}
@@ -21,10 +21,10 @@ use Rattle.lists.specs.Lists.{answer_read, order_answer, result_field, start}
 
 -- a refusal of one digit that is not 0, if it is one
 unfoldable pub Small : Option ℕ → Type 0
-Small none = Unit
-Small (some n) = (0 < n) × (n < 10)
+Small None = Unit
+Small (Some n) = (0 < n) × (n < 10)
 
-pub small_if : (b : Bool) (n : ℕ) (o : Option ℕ) → (0 < n) × (n < 10) → Small o → Small (if b then some n else o)
+pub small_if : (b : Bool) (n : ℕ) (o : Option ℕ) → (0 < n) × (n < 10) → Small o → Small (if b then Some n else o)
 unfolding Small
 small_if true n o small rest = small
 small_if false n o small rest = rest
@@ -50,7 +50,7 @@ refused_fits : (n : ℕ) → (0 < n) × (n < 10) → Fits (refused n)
 unfolding result_field start
 refused_fits n small = record { result_fits = omega arith; start_fits = omega arith }
 
-reply_fits : (c : Call) (t : Tree) → Legal t → refusal c t ≡ none → Fits (reply c t)
+reply_fits : (c : Call) (t : Tree) → Legal t → refusal c t ≡ None → Fits (reply c t)
 unfolding refusal reply result_field start
 reply_fits (open_line L p) t is_legal allowed =
     let may = open_may L p t is_legal allowed in
@@ -63,13 +63,13 @@ unfolding Small answer answer_unless
 answer_fits c t is_legal = by_refusal (refusal c t) refl (refusal_small c t)
   where
     by_refusal : (o : Option ℕ) → refusal c t ≡ o → Small o → Fits (answer_unless o (reply c t))
-    by_refusal none e small = reply_fits c t is_legal e
-    by_refusal (some n) e small = refused_fits n small
+    by_refusal None e small = reply_fits c t is_legal e
+    by_refusal (Some n) e small = refused_fits n small
 
 pub order_answer_fits : (n : ℕ) (t : Tree) → Legal t → Fits (order_answer n t)
 unfolding Small order_answer answer_read reading gives_unless
 order_answer_fits n t is_legal = by_reading (reading_refusal n) (reading_small n) _
   where
     by_reading : (o : Option ℕ) → Small o → (c : Call) → Fits (answer_read (gives_unless o c) t)
-    by_reading none small c = answer_fits c t is_legal
-    by_reading (some k) small c = refused_fits k small
+    by_reading None small c = answer_fits c t is_legal
+    by_reading (Some k) small c = refused_fits k small

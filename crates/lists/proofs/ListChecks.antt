@@ -3,7 +3,7 @@
 use Prim.Native.Nat.{ℕ, ◌*◌, ◌/◌, ◌%◌, ◌≤◌}
 use mathlib.Core.Path.{◌≡◌}
 use mathlib.Core.Bool.{true, false, not}
-use mathlib.Core.Option.{none, some}
+use Rattle.std.specs.Prelude.{None, Some}
 use lib.Dec.{eqb, ltb}
 use borrow.Author.Tests.{ltb-false, eqb-true, eq-eqb, ne_eqb, not-false}
 use Rattle.tree.specs.Refusals.{first_refusal}
@@ -33,15 +33,15 @@ fit_length n h =
 -- The two checks in their sequence
 
 module _ (n room : ℕ) where
-  pub unfit_length : length_refused n ≡ true → list_refusal n room ≡ some 7
+  pub unfit_length : length_refused n ≡ true → list_refusal n room ≡ Some 7
   unfolding list_refusal first_refusal
   unfit_length unfit = rw unfit
 
-  pub too_little_room : length_refused n ≡ false → room_refused n room ≡ true → list_refusal n room ≡ some 8
+  pub too_little_room : length_refused n ≡ false → room_refused n room ≡ true → list_refusal n room ≡ Some 8
   unfolding list_refusal first_refusal
   too_little_room fit short = rw (fit, short)
 
-  pub checks_passed : length_refused n ≡ false → room_refused n room ≡ false → list_refusal n room ≡ none
+  pub checks_passed : length_refused n ≡ false → room_refused n room ≡ false → list_refusal n room ≡ None
   unfolding list_refusal first_refusal
   checks_passed fit enough = rw (fit, enough)
 
@@ -51,7 +51,7 @@ pub record Passed (n room : ℕ) : Type 0 where
   pub not_long : n ≤ 65535
   pub has_room : 2 * (n / 3) ≤ room
 
-pub passed : (n room : ℕ) → list_refusal n room ≡ none → Passed n room
+pub passed : (n room : ℕ) → list_refusal n room ≡ None → Passed n room
 unfolding list_refusal first_refusal room_refused
 passed n room h =
     let seven = none_strikes (length_refused n) 7 _ h in

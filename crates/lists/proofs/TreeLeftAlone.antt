@@ -4,7 +4,7 @@ use Prim.Native.Nat.{ℕ}
 use mathlib.Core.Path.{◌≡◌, refl, ◌∙◌}
 use mathlib.Core.Bool.{false, true≢false}
 use mathlib.Core.List.{List, [], ◌∷◌}
-use mathlib.Core.Option.{Option, none, some}
+use Rattle.std.specs.Prelude.{Option, None, Some}
 use Rattle.tree.specs.Tree.{Tree}
 use Rattle.tree.specs.Calls.{Call, open_line, close_line, refusal, reply, carried_out, answer_unless, tree_unless, answer, after, Outcome, gives, refuses}
 use Rattle.tree.proofs.Checks.{neither}
@@ -16,9 +16,9 @@ unfolding answer answer_unless reply after tree_unless carried
 call_left_alone c t = by_refusal c (refusal c t)
   where
     by_refusal : (d : Call) (o : Option ℕ) → carried (answer_unless o (reply d t)) ≡ false → tree_unless o t (carried_out c t) ≡ t
-    by_refusal d (some n) h = refl
-    by_refusal (open_line L p) none h = absurd (true≢false h)
-    by_refusal (close_line L) none h = absurd (true≢false h)
+    by_refusal d (Some n) h = refl
+    by_refusal (open_line L p) None h = absurd (true≢false h)
+    by_refusal (close_line L) None h = absurd (true≢false h)
 
 order_left_alone : (o : Outcome Call) (t : Tree) → carried (answer_read o t) ≡ false → after_read o t ≡ t
 unfolding answer_read after_read

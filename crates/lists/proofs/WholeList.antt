@@ -5,7 +5,7 @@ use native.Mathlib.Omega.{arith}
 use mathlib.Core.Path.{◌≡◌, refl, sym, ◌∙◌, ap}
 use mathlib.Core.Bool.{Bool, true, false}
 use mathlib.Core.List.{List}
-use mathlib.Core.Option.{none, some}
+use Rattle.std.specs.Prelude.{None, Some}
 use lib.ListN.{length, replicate}
 use Rattle.tree.specs.declared.Plan.{Plan}
 use Rattle.tree.specs.Tree.{path, path_of}
@@ -20,7 +20,7 @@ use Rattle.lists.specs.Runs.{Runnable, OrdersRan, plan_run, CheckedRan, plan_aft
 use Rattle.lists.proofs.ListChecks.{Passed, passed}
 use Rattle.lists.proofs.TreeLeftAlone.{list_left_alone}
 
-pub list_runnable : (rows orders lent : List ℕ) → legal rows ≡ true → list_refusal (length orders) (length lent) ≡ none → Runnable rows orders lent (length orders / 3)
+pub list_runnable : (rows orders lent : List ℕ) → legal rows ≡ true → list_refusal (length orders) (length lent) ≡ None → Runnable rows orders lent (length orders / 3)
 list_runnable rows orders lent is_legal none_refuses =
     let lengths : Passed (length orders) (length lent) = passed (length orders) (length lent) none_refuses in
     record { is_legal = is_legal; in_threes = omega arith; not_long = lengths.not_long; has_room = lengths.has_room }
@@ -61,10 +61,10 @@ unfolding tree_of_rows record_of numbers_below numbers rows_11 path_of path
 empty_stands_in rows illegal = rw (tree_of_illegal (plan_of rows) illegal) empty_recorded
 
 module _ (plan : Plan) (orders lent : List ℕ) where
-  pub list_refused : (n : ℕ) → some n ≡ list_refusal (length orders) (length lent) → ListRan plan orders lent (some n) plan lent
+  pub list_refused : (n : ℕ) → Some n ≡ list_refusal (length orders) (length lent) → ListRan plan orders lent (Some n) plan lent
   unfolding plan_after_list bytes_after_list
   list_refused n h = record { refusal_is = h; plan_is = rw (sym h); bytes_are = rw (sym h) }
 
-  pub list_run : (after : Plan) (written : List ℕ) → none ≡ list_refusal (length orders) (length lent) → CheckedRan plan orders lent after written → ListRan plan orders lent none after written
+  pub list_run : (after : Plan) (written : List ℕ) → None ≡ list_refusal (length orders) (length lent) → CheckedRan plan orders lent after written → ListRan plan orders lent None after written
   unfolding plan_after_list bytes_after_list
   list_run after written h ran = record { refusal_is = h; plan_is = rw (sym h) ran.plan_is; bytes_are = rw (sym h) ran.bytes_are }

@@ -1,7 +1,7 @@
 -- What the functions of this crate promise of a plan record, the order bytes and the lent answer bytes.
 -- Assumes nothing.
 use Rattle.std.specs.Prelude.{ℕ, ◌*◌, ◌≤◌, ◌≡◌, Bool, true, List, ◌++◌, length, drop, if◌then◌else◌}
-use Rattle.std.proofs.Math.Option.{Option, none, some}
+use Rattle.std.specs.Prelude.{Option, None, Some}
 use Rattle.tree.specs.declared.Plan.{Plan}
 use Rattle.tree.specs.Tree.{Tree}
 use Rattle.tree.specs.Calls.{Answer, booked, done, refused}
@@ -21,8 +21,8 @@ answer_in (Refused n) = refused n
 
 -- the number with which a list is refused, if it is
 unfoldable pub refusal_in : ListAnswer → Option ℕ
-refusal_in ListDone = none
-refusal_in (ListRefused n) = some n
+refusal_in ListDone = None
+refusal_in (ListRefused n) = Some n
 
 -- one order ran on a legal record: it gave the order's answer and left the record of the order's tree
 pub record OrderRan (n : ℕ) (before after : List ℕ) (a : Answer) : Type 0 where
@@ -56,12 +56,12 @@ pub record CheckedRan (plan : Plan) (orders lent : List ℕ) (after : Plan) (wri
   pub bytes_are : written ≡ bytes_after (tree_of plan) (orders_of orders) lent
 
 unfoldable pub plan_after_list : Option ℕ → Plan → List ℕ → Plan
-plan_after_list (some n) plan orders = plan
-plan_after_list none plan orders = plan_run plan (orders_of orders)
+plan_after_list (Some n) plan orders = plan
+plan_after_list None plan orders = plan_run plan (orders_of orders)
 
 unfoldable pub bytes_after_list : Option ℕ → Plan → List ℕ → List ℕ → List ℕ
-bytes_after_list (some n) plan orders lent = lent
-bytes_after_list none plan orders lent = bytes_after (tree_of plan) (orders_of orders) lent
+bytes_after_list (Some n) plan orders lent = lent
+bytes_after_list None plan orders lent = bytes_after (tree_of plan) (orders_of orders) lent
 
 -- A list ran: its answer, the plan after it and the lent bytes are those of the rules. A refused list changes nothing.
 pub record ListRan (plan : Plan) (orders lent : List ℕ) (refused_with : Option ℕ) (after : Plan) (written : List ℕ) : Type 0 where

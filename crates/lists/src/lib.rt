@@ -2,7 +2,7 @@
 #![tactic(auto)]
 
 ghost use Rattle.std.specs.Prelude.{◌≡◌, true, false, ◌||◌, ◌+◌, ◌<◌, length, set};
-ghost use Rattle.std.proofs.Math.Option.{none};
+ghost use Rattle.std.specs.Prelude.{None};
 ghost use Rattle.tree.specs.Calls.{open_line, close_line};
 ghost use Rattle.tree.specs.Record.{legal};
 ghost use Rattle.bridge.specs.Rows.{plan_of, CarriedOut};
@@ -169,7 +169,7 @@ fn check_lengths(length: usize, room: usize) -> ListAnswer
 
 // Runs a list that passes its checks on a record that is no tree: on the empty plan, which takes the record's place where an order is carried out.
 fn run_in_empty(rows: &mut [u16; 1408], orders: &[u8], answers: &mut [u8])
-    requires { (legal rows.old ≡ false) × (list_refusal (length orders.now) (length answers.old) ≡ none) }
+    requires { (legal rows.old ≡ false) × (list_refusal (length orders.now) (length answers.old) ≡ None) }
     ensures { CheckedRan (plan_of rows.old) orders.now answers.old (plan_of rows.new) answers.new }
 {
     let mut fresh = [0; 1408];
@@ -182,7 +182,7 @@ fn run_in_empty(rows: &mut [u16; 1408], orders: &[u8], answers: &mut [u8])
 
 // Runs a list that passes its checks: in place where the record is a tree.
 fn run_checked(rows: &mut [u16; 1408], orders: &[u8], answers: &mut [u8])
-    requires { list_refusal (length orders.now) (length answers.old) ≡ none }
+    requires { list_refusal (length orders.now) (length answers.old) ≡ None }
     ensures { CheckedRan (plan_of rows.old) orders.now answers.old (plan_of rows.new) answers.new }
 {
     paths::whole(rows);

@@ -5,7 +5,7 @@ use native.Mathlib.Omega.{arith}
 use native.Mathlib.Decide.{ℕ_discrete}
 use mathlib.Core.Path.{◌≡◌, refl, sym, ap, ap₂, ◌∙◌}
 use mathlib.Core.Logic.{⊎_elim}
-use mathlib.Core.Option.{Option, none, some}
+use Rattle.std.specs.Prelude.{Option, None, Some}
 use Rattle.tree.specs.Calls.{Call, open_line, close_line, Outcome, gives, refuses, gives_unless}
 use Rattle.orders.specs.declared.Bytes.{Bytes}
 use Rattle.orders.specs.Order.{order_of, bytes_of, kind, line, period, filler, order_with}
@@ -124,13 +124,13 @@ module _ (b : Bytes) (bytes : AreBytes b) (c : Call) (read : reading (order_of b
 -- what is given or refused is so whatever it would give
 given : {A B : Type 0} (o : Option ℕ) (a x : A) (b : B) → gives_unless o a ≡ gives x → gives_unless o b ≡ gives b
 unfolding gives_unless
-given none a x b e = refl
-given (some n) a x b e = let z : ◌≡◌ {A = ℕ} 0 1 = cc in absurd (omega arith)
+given None a x b e = refl
+given (Some n) a x b e = let z : ◌≡◌ {A = ℕ} 0 1 = cc in absurd (omega arith)
 
 refused : {A B : Type 0} (o : Option ℕ) (a : A) (b : B) (n : ℕ) → gives_unless o a ≡ refuses n → gives_unless o b ≡ refuses n
 unfolding gives_unless
-refused none a b n e = let z : ◌≡◌ {A = ℕ} 0 1 = cc in absurd (omega arith)
-refused (some m) a b n e = let same : m ≡ n = cc in ap refuses same
+refused None a b n e = let z : ◌≡◌ {A = ℕ} 0 1 = cc in absurd (omega arith)
+refused (Some m) a b n e = let same : m ≡ n = cc in ap refuses same
 
 same_call : (c : Call) → call_of (kind_of c) (line_of c) (period_of c) ≡ c
 unfolding call_of kind_of line_of period_of

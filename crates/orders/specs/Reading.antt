@@ -1,7 +1,7 @@
 -- Reading an order (document 01, Orders, and Who brings a refusal about).
 -- Assumes nothing.
 use Rattle.std.specs.Prelude.{ℕ, zero, suc, Bool, not, ◌⊎◌, ◌≡◌, [], ◌∷◌, eqb}
-use Rattle.std.proofs.Math.Option.{Option}
+use Rattle.std.specs.Prelude.{Option}
 use Rattle.tree.specs.Refusals.{refuse, first_refusal}
 use Rattle.tree.specs.Calls.{Call, open_line, close_line, Outcome, gives, refuses, gives_unless}
 use Rattle.orders.specs.declared.Reading.{Reading}

@@ -7,7 +7,7 @@ use native.Mathlib.Nat.{lt_of_lt_of_le}
 use native.Mathlib.Numerals.{add-one}
 use mathlib.Core.Path.{◌≡◌, refl, sym, ◌∙◌, ap}
 use mathlib.Core.Bool.{Bool, true, false, ◌||◌, true≢false}
-use mathlib.Core.Option.{Option, none, some}
+use Rattle.std.specs.Prelude.{Option, None, Some}
 use lib.Dec.{ltb}
 use borrow.Author.Tests.{ltb-true, ltb-false}
 use Rattle.tree.specs.Search.{found, or_else, first, smallest, some_below}
@@ -19,10 +19,10 @@ pub some_below_more : (n : ℕ) (test : ℕ → Bool) → some_below (n + 1) tes
 unfolding some_below smallest first found or_else
 some_below_more n test = rw add-one (go (smallest n test) (test n))
   where
-    go : (o : Option ℕ) (b : Bool) → found (or_else o (if b then some n else none)) ≡ (found o || b)
-    go none true = refl
-    go none false = refl
-    go (some i) b = refl
+    go : (o : Option ℕ) (b : Bool) → found (or_else o (if b then Some n else None)) ≡ (found o || b)
+    go None true = refl
+    go None false = refl
+    go (Some i) b = refl
 
 -- no number from n on passes
 pub some_below_up_to : (test : ℕ → Bool) {n m : ℕ} → n ≤ m → ((i : ℕ) → n ≤ i → i < m → test i ≡ false) → some_below m test ≡ some_below n test
@@ -41,24 +41,24 @@ abbrev pub NoneBelow : ℕ → (ℕ → Bool) → ℕ → Type 0
 NoneBelow n test k = SoFar false n test k
 
 module _ {n : ℕ} {test : ℕ → Bool} {k : ℕ} (searched : NoneBelow n test k) where
-  pub smallest_here : k < n → test k ≡ true → smallest n test ≡ some k
+  pub smallest_here : k < n → test k ≡ true → smallest n test ≡ Some k
   smallest_here below h = go (smallest n test) refl
     where
-      go : (o : Option ℕ) → smallest n test ≡ o → smallest n test ≡ some k
-      go none e = absurd (true≢false (sym h ∙ smallest_none n test e k below))
-      go (some i) e =
+      go : (o : Option ℕ) → smallest n test ≡ o → smallest n test ≡ Some k
+      go None e = absurd (true≢false (sym h ∙ smallest_none n test e k below))
+      go (Some i) e =
           let s = smallest_some n test i e in
           let not_later : k < i → ⊥ = λ later. true≢false (sym h ∙ s.none_smaller k later) in
           let not_earlier : i < k → ⊥ = λ earlier. true≢false (sym s.passes ∙ searched.gave i earlier) in
           let same : i ≡ k = omega arith in
-          e ∙ ap some same
+          e ∙ ap Some same
 
-  pub smallest_nowhere : n ≤ k → smallest n test ≡ none
+  pub smallest_nowhere : n ≤ k → smallest n test ≡ None
   smallest_nowhere past = go (smallest n test) refl
     where
-      go : (o : Option ℕ) → smallest n test ≡ o → smallest n test ≡ none
-      go none e = e
-      go (some i) e =
+      go : (o : Option ℕ) → smallest n test ≡ o → smallest n test ≡ None
+      go None e = e
+      go (Some i) e =
           let s = smallest_some n test i e in
           absurd (true≢false (sym s.passes ∙ searched.gave i (lt_of_lt_of_le s.in_range past)))
 

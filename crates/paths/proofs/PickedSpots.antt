@@ -4,27 +4,28 @@ use Prim.Native.Nat.{ℕ, zero, suc}
 use native.Mathlib.Omega.{arith}
 use mathlib.Core.Path.{◌≡◌, refl}
 use mathlib.Core.Logic.{◌⊎◌, inl, inr, ⊎_elim}
-use mathlib.Core.Option.{Option, none, some, none-ne-some}
+use Rattle.std.specs.Prelude.{Option, None, Some}
+use Rattle.std.proofs.lemmas.Option.{none-some}
 use lib.ListN.{length}
 use Rattle.tree.proofs.PlaceOrder.{before_not_self}
 use Rattle.tree.proofs.Picking.{PicksBy, Either, earlier, picks_same, picks_earlier, Below, below_or_last, below_suc}
 use Rattle.paths.specs.Rules.{Family, Spot, place_of, spot_at, better_spot, best_on_path, best_of_lines}
 
-picks_offered : (o : Option Spot) → PicksBy place_of (λ s. o ≡ some s) o
-picks_offered none = λ s h. none-ne-some s h
-picks_offered (some s) = (refl, λ q h. let same : q ≡ s = cc in rw same (before_not_self (place_of s)))
+picks_offered : (o : Option Spot) → PicksBy place_of (λ s. o ≡ Some s) o
+picks_offered None = λ s h. none-some s h
+picks_offered (Some s) = (refl, λ q h. let same : q ≡ s = cc in rw same (before_not_self (place_of s)))
 
 picks_better_spot : (C D : Spot → Type 0) (o q : Option Spot) → PicksBy place_of C o → PicksBy place_of D q → PicksBy place_of (Either C D) (better_spot o q)
 unfolding better_spot earlier
 picks_better_spot = picks_earlier place_of
 
 -- whatever has the property is no better than what was picked
-pub picks_no_better : (C : Spot → Type 0) (o q : Option Spot) → PicksBy place_of C o → ((s : Spot) → q ≡ some s → C s) → better_spot o q ≡ o
+pub picks_no_better : (C : Spot → Type 0) (o q : Option Spot) → PicksBy place_of C o → ((s : Spot) → q ≡ Some s → C s) → better_spot o q ≡ o
 unfolding better_spot
-picks_no_better C none none picked has = refl
-picks_no_better C none (some s) picked has = absurd (picked s (has s refl))
-picks_no_better C (some b) none picked has = refl
-picks_no_better C (some b) (some s) picked has = rw (picked.1 s (has s refl))
+picks_no_better C None None picked has = refl
+picks_no_better C None (Some s) picked has = absurd (picked s (has s refl))
+picks_no_better C (Some b) None picked has = refl
+picks_no_better C (Some b) (Some s) picked has = rw (picked.1 s (has s refl))
 
 level_added : (C : Type 0) (E : ℕ → Type 0) (n : ℕ) → (C ⊎ Below n E) ⊎ E n → C ⊎ Below (suc n) E
 level_added C E n (inl (inl h)) = inl h
@@ -38,7 +39,7 @@ last_level_apart C E n (inr h) = ⊎_elim (λ k. inl (inr k)) (λ k. inr k) (bel
 module _ (family : Family) (p : ℕ) where
   -- the spot of a level below n of line M's path
   abbrev pub OnPath : ℕ → ℕ → Spot → Type 0
-  OnPath M n s = Below n (λ l. spot_at family p M l ≡ some s)
+  OnPath M n s = Below n (λ l. spot_at family p M l ≡ Some s)
 
   -- the spot of a level of the path of a line below n
   abbrev pub OnLines : ℕ → Spot → Type 0

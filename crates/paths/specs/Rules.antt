@@ -2,7 +2,7 @@
 -- over the tree is proved (crate bridge).
 -- Assumes nothing.
 use Rattle.std.specs.Prelude.{ℕ, zero, suc, ◌+◌, ◌*◌, ◌/◌, ◌%◌, Bool, true, false, not, ◌&&◌, List, [], ◌∷◌, ◌++◌, eqb, ltb, length, get_or, take, drop, if◌then◌else◌}
-use Rattle.std.proofs.Math.Option.{Option, none, some, map}
+use Rattle.std.specs.Prelude.{Option, None, Some, option_map}
 use Rattle.tree.specs.declared.Row.{Row}
 use Rattle.tree.specs.Numbers.{divides}
 use Rattle.tree.specs.Search.{smallest, some_below, count_below}
@@ -53,15 +53,15 @@ place_of s = record { level = s.level; offset = s.offset }
 unfoldable pub spot_with : Family → ℕ → ℕ → ℕ → ℕ → ℕ → Option Spot
 spot_with family p M l m r =
     let d = divisor p m (row_of l (family M)).weight in
-    if divides m p then map (λ i. record { line = M; level = l; offset = r; step = m; divisor = d; class = i }) (class_on_path family (family M) l d) else none
+    if divides m p then option_map (λ i. record { line = M; level = l; offset = r; step = m; divisor = d; class = i }) (class_on_path family (family M) l d) else None
 
 unfoldable pub spot_at : Family → ℕ → ℕ → ℕ → Option Spot
 spot_at family p M l = spot_with family p M l (product (take l (family M))) (sum (take l (family M)))
 
 unfoldable pub better_spot : Option Spot → Option Spot → Option Spot
-better_spot none b = b
-better_spot (some a) none = some a
-better_spot (some a) (some b) = if before (place_of b) (place_of a) then some b else some a
+better_spot None b = b
+better_spot (Some a) None = Some a
+better_spot (Some a) (Some b) = if before (place_of b) (place_of a) then Some b else Some a
 
 -- the best so far, and then the levels below n of line M's path
 unfoldable pub best_on_path : Family → ℕ → Option Spot → ℕ → ℕ → Option Spot
@@ -70,7 +70,7 @@ best_on_path family p so_far M (suc n) = better_spot (best_on_path family p so_f
 
 -- the best over the lines below n
 unfoldable pub best_of_lines : Family → ℕ → ℕ → Option Spot
-best_of_lines family p zero = none
+best_of_lines family p zero = None
 best_of_lines family p (suc n) = best_on_path family p (best_of_lines family p n) n (length (family n))
 
 -- The booking, written into the record
@@ -131,14 +131,14 @@ line_under family ps l e = smallest 64 (λ N. same_node l ps (family N) && eqb (
 
 -- the walk for round n from the node at level l of line M's path on, through at most so many nodes
 unfoldable pub walk_on_paths : Family → ℕ → ℕ → ℕ → ℕ → Option ℕ
-walk_on_paths family zero M l n = none
+walk_on_paths family zero M l n = None
 walk_on_paths family (suc left) M l n =
     elim (line_under family (family M) l (n % (row_of l (family M)).weight)) [
-      | none ↦ none
-      | some N ↦ if eqb (length (family N)) (suc l) then some N else walk_on_paths family left N (suc l) (n / (row_of l (family M)).weight)
+      | None ↦ None
+      | Some N ↦ if eqb (length (family N)) (suc l) then Some N else walk_on_paths family left N (suc l) (n / (row_of l (family M)).weight)
     ]
 
 -- the walk from the root, which every open line's path goes through
 unfoldable pub owner_on_paths : Family → ℕ → Option ℕ
 owner_on_paths family n =
-    elim (smallest 64 (λ M. not (no_rows (family M)))) [ none ↦ none | some M ↦ walk_on_paths family 11 M 0 n ]
+    elim (smallest 64 (λ M. not (no_rows (family M)))) [ None ↦ None | Some M ↦ walk_on_paths family 11 M 0 n ]

@@ -5,7 +5,7 @@ use native.Mathlib.Omega.{arith}
 use mathlib.Core.Path.{◌≡◌, refl, sym, ◌∙◌, ap}
 use mathlib.Core.Bool.{true, false}
 use mathlib.Core.List.{List}
-use mathlib.Core.Option.{Option, none, some}
+use Rattle.std.specs.Prelude.{Option, None, Some}
 use mathlib.Core.Logic.{⊎_elim}
 use lib.ListN.{replicate}
 use Rattle.tree.specs.declared.Plan.{Plan}
@@ -39,8 +39,8 @@ carried_meets c plan rows a h =
     record { answer_is = h.answer_is; plan_is = (λ i. record { rows = h.rows_are i }) ∙ by_refusal (refusal c (tree_of plan)) }
   where
     by_refusal : (o : Option ℕ) → ◌≡◌ {A = Plan} (record { rows = rows_unless o plan.rows (record_of (carried_out c (tree_of plan))).rows }) (plan_unless o plan (record_of (carried_out c (tree_of plan))))
-    by_refusal (some n) = refl
-    by_refusal none = refl
+    by_refusal (Some n) = refl
+    by_refusal None = refl
 
 -- the plan after a call has the tree that the rules leave
 pub plan_after_tree : (c : Call) (plan : Plan) → tree_of (plan_after c plan) ≡ after c (tree_of plan)
@@ -49,8 +49,8 @@ plan_after_tree c plan = by_refusal (refusal c (tree_of plan)) refl
   where
     by_refusal : (o : Option ℕ) → refusal c (tree_of plan) ≡ o →
         tree_of (plan_unless o plan (record_of (carried_out c (tree_of plan)))) ≡ tree_unless o (tree_of plan) (carried_out c (tree_of plan))
-    by_refusal none e = record_has_tree (carried_out c (tree_of plan)) (carried_out_legal c (tree_of plan) (tree_of_legal plan) e)
-    by_refusal (some n) e = refl
+    by_refusal None e = record_has_tree (carried_out c (tree_of plan)) (carried_out_legal c (tree_of plan) (tree_of_legal plan) e)
+    by_refusal (Some n) e = refl
 
 -- The empty plan
 
@@ -101,8 +101,8 @@ module _ (rows : List ℕ) (not_legal : legal rows ≡ false) where
 
       by_refusal : (o : Option ℕ) → booked s ≡ answer_unless o (reply c (tree_of_rows rows)) →
           rows_unless o empty_plan.rows (record_of (carried_out c (tree_of_rows rows))).rows ≡ rows_unless o rows (record_of (carried_out c (tree_of_rows rows))).rows
-      by_refusal (some n) e = absurd (refused_not_booked n s (sym e))
-      by_refusal none e = refl
+      by_refusal (Some n) e = absurd (refused_not_booked n s (sym e))
+      by_refusal None e = refl
 
   refused_from_empty : (c : Call) (n : ℕ) (after : List ℕ) → CarriedOut c empty_plan.rows after (refused n) → CarriedOut c rows rows (refused n)
   unfolding answer answer_unless rows_after rows_unless
@@ -112,8 +112,8 @@ module _ (rows : List ℕ) (not_legal : legal rows ≡ false) where
       told = h.answer_is ∙ ap (answer c) same_tree
 
       by_refusal : (o : Option ℕ) → refused n ≡ answer_unless o (reply c (tree_of_rows rows)) → rows ≡ rows_unless o rows (record_of (carried_out c (tree_of_rows rows))).rows
-      by_refusal (some m) e = refl
-      by_refusal none e = absurd (reply_not_refused c (tree_of_rows rows) n (sym e))
+      by_refusal (Some m) e = refl
+      by_refusal None e = absurd (reply_not_refused c (tree_of_rows rows) n (sym e))
 
   close_none : (L : ℕ) → L ≤ 63 → CarriedOut (close_line L) rows rows (refused 4)
   unfolding refusal is_open path found

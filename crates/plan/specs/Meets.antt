@@ -1,7 +1,7 @@
 -- What the calls open and close promise, for every plan record, every line number and every period.
 -- Assumes nothing.
 use Rattle.std.specs.Prelude.{ℕ, ◌≡◌}
-use Rattle.std.proofs.Math.Option.{Option, none, some}
+use Rattle.std.specs.Prelude.{Option, None, Some}
 use Rattle.tree.specs.declared.Plan.{Plan}
 use Rattle.tree.specs.Tree.{nothing}
 use Rattle.tree.specs.Calls.{Call, Answer, refusal, carried_out, answer}
@@ -12,8 +12,8 @@ unfoldable pub empty_plan : Plan
 empty_plan = record_of nothing
 
 unfoldable pub plan_unless : Option ℕ → Plan → Plan → Plan
-plan_unless (some n) before after = before
-plan_unless none before after = after
+plan_unless (Some n) before after = before
+plan_unless None before after = after
 
 -- the plan after a call: the record of the tree that the rules leave or, where the call is refused, the record handed in, as found
 unfoldable pub plan_after : Call → Plan → Plan

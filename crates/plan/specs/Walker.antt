@@ -1,7 +1,7 @@
 -- The walker (document 01, The walker; the rest by document 02, Ask 4): what a call on a place answers, and where it leaves the place.
 -- Assumes nothing.
 use Rattle.std.specs.Prelude.{ℕ, ◌+◌, ◌≡◌, Bool, ◌||◌, eqb, if◌then◌else◌}
-use Rattle.std.proofs.Math.Option.{Option, none, some}
+use Rattle.std.specs.Prelude.{Option, None, Some}
 use Rattle.tree.specs.Tree.{Tree}
 use Rattle.tree.specs.Asking.{owner, OwnerOrRest, owned_by, idle_for, owner_or_rest}
 use Rattle.tree.specs.Calls.{Outcome, gives, refuses}
@@ -19,8 +19,8 @@ walk_outcome place t = if at_end place then refuses 9 else gives (owner_or_rest 
 
 -- (The walker, 2) 1 more if the round was owned
 unfoldable pub count_after : Option ℕ → ℕ → ℕ
-count_after (some n) count = count + 1
-count_after none count = count
+count_after (Some n) count = count + 1
+count_after None count = count
 
 unfoldable pub moved_on : WalkerPlace → Tree → WalkerPlace
 moved_on place t = record { next = place.next + 1; owned = count_after (owner place.next t) place.owned }

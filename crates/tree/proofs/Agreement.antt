@@ -6,7 +6,8 @@ use mathlib.Core.Path.{◌≡◌, refl, sym, ◌∙◌, ap, subst}
 use mathlib.Core.Logic.{◌⊎◌, inl, inr}
 use mathlib.Core.Bool.{Bool, true, false, true≢false}
 use mathlib.Core.List.{List, [], ◌∷◌, ◌++◌, nil≢cons, head-eq_of_cons-eq, tail-eq_of_cons-eq}
-use mathlib.Core.Option.{Option, none, some, none-ne-some, some-injective}
+use Rattle.std.specs.Prelude.{Option, None, Some}
+use Rattle.std.proofs.lemmas.Option.{none-some, same_Some}
 use borrow.Author.Tests.{eq-eqb, ne_eqb}
 use Rattle.tree.specs.Search.{found}
 use Rattle.tree.specs.Tree.{Tree, nothing, is_open, period_of, start_of}
@@ -25,8 +26,8 @@ use Rattle.tree.proofs.Checks.{open_may}
 -- The tree is legal, and a line has a booking in the ledger exactly when it stands in the tree with that period and start.
 pub record Agree (ledger : Ledger) (t : Tree) : Type 0 where
   pub legal : Legal t
-  pub stands : (L : ℕ) (b : Booking) → ledger L ≡ some b → Stands L t b.period b.start
-  pub entered : (L q u : ℕ) → Stands L t q u → ledger L ≡ some (record { period = q; start = u })
+  pub stands : (L : ℕ) (b : Booking) → ledger L ≡ Some b → Stands L t b.period b.start
+  pub entered : (L q u : ℕ) → Stands L t q u → ledger L ≡ Some (record { period = q; start = u })
 
 -- One entry of the ledger changed
 
@@ -46,62 +47,62 @@ module _ (ledger : Ledger) (t : Tree) (agree : Agree ledger t) where
   ledger_open L = go (ledger L) refl (is_open L t) refl
     where
       go : (o : Option Booking) → ledger L ≡ o → (b : Bool) → is_open L t ≡ b → found (ledger L) ≡ is_open L t
-      go none e true h = absurd (none-ne-some _ (sym e ∙ agree.entered L (period_of L t) (start_of L t) (open_stands L t h)))
-      go none e false h = ap found e ∙ sym h
-      go (some b) e x h = ap found e ∙ sym (stands_open L t b.period b.start (agree.stands L b e))
+      go None e true h = absurd (none-some _ (sym e ∙ agree.entered L (period_of L t) (start_of L t) (open_stands L t h)))
+      go None e false h = ap found e ∙ sym h
+      go (Some b) e x h = ap found e ∙ sym (stands_open L t b.period b.start (agree.stands L b e))
 
-  module _ (L p : ℕ) (none_refuses : open_refusal L p t ≡ none) where
+  module _ (L p : ℕ) (none_refuses : open_refusal L p t ≡ None) where
     abbrev new : Booking
     new = record { period = p; start = start_given p t }
 
     may : MayOpen L p t
     may = open_may L p t agree.legal none_refuses
 
-    opened_books : (M : ℕ) (b : Booking) → with_line L (some new) ledger M ≡ some b → Stands M (opened L p t) b.period b.start
+    opened_books : (M : ℕ) (b : Booking) → with_line L (Some new) ledger M ≡ Some b → Stands M (opened L p t) b.period b.start
     opened_books M b e =
         elim (ℕ_discrete M L) [
           | yes same ↦
-              let is_new : new ≡ b = some-injective new b (sym (with_line_same L M (some new) ledger same) ∙ e) in
+              let is_new : new ≡ b = same_Some new b (sym (with_line_same L M (Some new) ledger same) ∙ e) in
               subst (λ (x : Booking). Stands M (opened L p t) x.period x.start) is_new (rw same (opened_new L p t may))
           | no other ↦
-              opened_others L p t M b.period b.start may (agree.stands M b (sym (with_line_other L M (some new) ledger other) ∙ e))
+              opened_others L p t M b.period b.start may (agree.stands M b (sym (with_line_other L M (Some new) ledger other) ∙ e))
         ]
 
-    opened_entered : (M q u : ℕ) → Stands M (opened L p t) q u → with_line L (some new) ledger M ≡ some (record { period = q; start = u })
+    opened_entered : (M q u : ℕ) → Stands M (opened L p t) q u → with_line L (Some new) ledger M ≡ Some (record { period = q; start = u })
     opened_entered M q u h = go (opened_only L p t M q u may h)
       where
-        go : Stands M t q u ⊎ ((M ≡ L) × (q ≡ p) × (u ≡ start_given p t)) → with_line L (some new) ledger M ≡ some (record { period = q; start = u })
+        go : Stands M t q u ⊎ ((M ≡ L) × (q ≡ p) × (u ≡ start_given p t)) → with_line L (Some new) ledger M ≡ Some (record { period = q; start = u })
         go (inl old) =
-            with_line_other L M (some new) ledger (λ same. true≢false (sym (stands_open M t q u old) ∙ ap (λ (K : ℕ). is_open K t) same ∙ may.not_open))
+            with_line_other L M (Some new) ledger (λ same. true≢false (sym (stands_open M t q u old) ∙ ap (λ (K : ℕ). is_open K t) same ∙ may.not_open))
             ∙ agree.entered M q u old
         go (inr x) =
-            with_line_same L M (some new) ledger x.0 ∙ (λ i. some (record { period = sym x.1 i; start = sym x.2 i }))
+            with_line_same L M (Some new) ledger x.0 ∙ (λ i. Some (record { period = sym x.1 i; start = sym x.2 i }))
 
-    agree_opened : Agree (with_line L (some new) ledger) (opened L p t)
+    agree_opened : Agree (with_line L (Some new) ledger) (opened L p t)
     agree_opened = record { legal = opened_legal L p t may; stands = opened_books; entered = opened_entered }
 
   module _ (L : ℕ) where
-    closed_books : (M : ℕ) (b : Booking) → with_line L none ledger M ≡ some b → Stands M (closed L t) b.period b.start
+    closed_books : (M : ℕ) (b : Booking) → with_line L None ledger M ≡ Some b → Stands M (closed L t) b.period b.start
     closed_books M b e =
         elim (ℕ_discrete M L) [
-          | yes same ↦ absurd (none-ne-some b (sym (with_line_same L M none ledger same) ∙ e))
-          | no other ↦ stands_closed L M t b.period b.start (agree.stands M b (sym (with_line_other L M none ledger other) ∙ e)) other
+          | yes same ↦ absurd (none-some b (sym (with_line_same L M None ledger same) ∙ e))
+          | no other ↦ stands_closed L M t b.period b.start (agree.stands M b (sym (with_line_other L M None ledger other) ∙ e)) other
         ]
 
-    closed_entered : (M q u : ℕ) → Stands M (closed L t) q u → with_line L none ledger M ≡ some (record { period = q; start = u })
+    closed_entered : (M q u : ℕ) → Stands M (closed L t) q u → with_line L None ledger M ≡ Some (record { period = q; start = u })
     closed_entered M q u h =
         let x = closed_stands L M t q u h in
-        with_line_other L M none ledger x.1 ∙ agree.entered M q u x.0
+        with_line_other L M None ledger x.1 ∙ agree.entered M q u x.0
 
-    agree_closed : Agree (with_line L none ledger) (closed L t)
+    agree_closed : Agree (with_line L None ledger) (closed L t)
     agree_closed = record { legal = closed_legal L t agree.legal; stands = closed_books; entered = closed_entered }
 
   agree_answered : (c : Call) (o : Option ℕ) → refusal c t ≡ o → Agree (enter c (answer_unless o (reply c t)) ledger) (tree_unless o t (carried_out c t))
   unfolding refusal reply carried_out answer_unless tree_unless enter
-  agree_answered (open_line L p) (some n) e = agree
-  agree_answered (open_line L p) none e = agree_opened L p e
-  agree_answered (close_line L) (some n) e = agree
-  agree_answered (close_line L) none e = agree_closed L
+  agree_answered (open_line L p) (Some n) e = agree
+  agree_answered (open_line L p) None e = agree_opened L p e
+  agree_answered (close_line L) (Some n) e = agree
+  agree_answered (close_line L) None e = agree_closed L
 
   -- after each call, refused or carried out, ledger and tree agree again
   pub agree_after : (c : Call) → Agree (enter c (answer c t) ledger) (after c t)
@@ -113,7 +114,7 @@ unfolding all_closed Legal Stands
 agree_at_first =
     record {
       legal = tt;
-      stands = λ L b e. absurd (none-ne-some b e);
+      stands = λ L b e. absurd (none-some b e);
       entered = λ L q u h. absurd h;
     }
 

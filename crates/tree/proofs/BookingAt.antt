@@ -8,7 +8,7 @@ use native.Mathlib.Nat.{mul_assoc, mul-add, mul-one, mul-zero, zero-add, add_ass
 use mathlib.Core.Path.{◌≡◌, refl, sym, ◌∙◌, ap, subst}
 use mathlib.Core.Logic.{◌⊎◌, inl, inr}
 use mathlib.Core.Bool.{true, false, false≢true, not-eq-not, and-eq-true_iff}
-use mathlib.Core.Option.{some, get_or}
+use Rattle.std.specs.Prelude.{Some, unwrap_or}
 use Rattle.tree.specs.Search.{found}
 use Rattle.tree.specs.Numbers.{divides, gcd}
 use Rattle.tree.specs.Tree.{Tree, nothing, line, node, present, is_open, period_of, start_of, product, at_digits, way_by_digits}
@@ -53,7 +53,7 @@ factor_positive m d q p positive h = go (eq-zero-or-pos q)
         absurd (omega arith)
     go (inr k) = k
 
-class_fits : (p m w : ℕ) (f : ℕ → Tree) (i : ℕ) → 0 < p → 0 < w → divides m p ≡ true → free_class p m (node w f) ≡ some i → Fit p m w f i
+class_fits : (p m w : ℕ) (f : ℕ → Tree) (i : ℕ) → 0 < p → 0 < w → divides m p ≡ true → free_class p m (node w f) ≡ Some i → Fit p m w f i
 unfolding free_class
 class_fits p m w f i p_positive w_positive h class =
     let s = smallest_some (divisor p m w) (free (divisor p m w) w f) i class in
@@ -70,7 +70,7 @@ class_fits p m w f i p_positive w_positive h class =
       period_is = factors p m w h;
     }
 
-pub candidate_fits : (p m : ℕ) (t : Tree) → 0 < p → Proper t → candidate p m t ≡ true → FitIn p m (get_or (free_class p m t) 0) t
+pub candidate_fits : (p m : ℕ) (t : Tree) → 0 < p → Proper t → candidate p m t ≡ true → FitIn p m (unwrap_or (free_class p m t) 0) t
 unfolding candidate free_class FitIn Proper found
 candidate_fits p m nothing positive proper h = absurd (false≢true ((and-eq-true_iff (divides m p) false).0 h).1)
 candidate_fits p m (line n) positive proper h = absurd (false≢true ((and-eq-true_iff (divides m p) false).0 h).1)

@@ -6,7 +6,8 @@ use native.Mathlib.Omega.{arith}
 use mathlib.Core.Path.{◌≡◌, refl}
 use mathlib.Core.Bool.{Bool, true, false, not, ◌||◌, true≢false}
 use mathlib.Core.List.{List, [], ◌∷◌, ◌++◌}
-use mathlib.Core.Option.{Option, none, some, some-ne-none}
+use Rattle.std.specs.Prelude.{Option, None, Some}
+use Rattle.tree.proofs.Options.{some-none}
 use lib.Dec.{eqb, ltb}
 use borrow.Author.Tests.{eqb-false, ltb-false, lt-ltb, le-ltb, eq-eqb, ne_eqb}
 use Rattle.tree.specs.Search.{or_else}
@@ -17,7 +18,7 @@ use Rattle.tree.proofs.Opening.{MayOpen}
 
 -- a check that comes last decides where none before it refuses
 first_refusal_last : (checks : List Check) (n : ℕ) (strikes : Bool) →
-    first_refusal (checks ++ (refuse n strikes ∷ [])) ≡ or_else (first_refusal checks) (if strikes then some n else none)
+    first_refusal (checks ++ (refuse n strikes ∷ [])) ≡ or_else (first_refusal checks) (if strikes then Some n else None)
 unfolding first_refusal or_else
 first_refusal_last [] n strikes = refl
 first_refusal_last (refuse m true ∷ checks) n strikes = refl
@@ -27,17 +28,17 @@ first_refusal_last (refuse m false ∷ checks) n strikes = first_refusal_last ch
 abbrev pub earlier_refusal : ℕ → ℕ → Tree → Option ℕ
 earlier_refusal L p t = first_refusal (earlier_checks L p (is_open L t))
 
-pub refused_earlier : (L p : ℕ) (t : Tree) (n : ℕ) → earlier_refusal L p t ≡ some n → open_refusal L p t ≡ some n
+pub refused_earlier : (L p : ℕ) (t : Tree) (n : ℕ) → earlier_refusal L p t ≡ Some n → open_refusal L p t ≡ Some n
 unfolding open_refusal or_else
 refused_earlier L p t n h = rw (first_refusal_last (earlier_checks L p (is_open L t)) 5 (no_room p t), h)
 
-pub refused_by_5 : (L p : ℕ) (t : Tree) → earlier_refusal L p t ≡ none → open_refusal L p t ≡ (if no_room p t then some 5 else none)
+pub refused_by_5 : (L p : ℕ) (t : Tree) → earlier_refusal L p t ≡ None → open_refusal L p t ≡ (if no_room p t then Some 5 else None)
 unfolding open_refusal or_else
 refused_by_5 L p t h = rw (first_refusal_last (earlier_checks L p (is_open L t)) 5 (no_room p t), h)
 
 -- a check that has not refused did not strike
-pub none_strikes : (b : Bool) (n : ℕ) (o : Option ℕ) → (if b then some n else o) ≡ none → (b ≡ false) × (o ≡ none)
-none_strikes true n o h = absurd (some-ne-none n h)
+pub none_strikes : (b : Bool) (n : ℕ) (o : Option ℕ) → (if b then Some n else o) ≡ None → (b ≡ false) × (o ≡ None)
+none_strikes true n o h = absurd (some-none n h)
 none_strikes false n o h = (refl, h)
 
 pub neither : (a b : Bool) → (a || b) ≡ false → (a ≡ false) × (b ≡ false)
@@ -53,7 +54,7 @@ pub range_at_most : (p : ℕ) → period_out_of_range p ≡ false → p ≤ 4095
 unfolding period_out_of_range
 range_at_most p inside = ltb-false 4095 p (neither (eqb p 0) (ltb 4095 p) inside).1
 
-pub open_may : (L p : ℕ) (t : Tree) → Legal t → open_refusal L p t ≡ none → MayOpen L p t
+pub open_may : (L p : ℕ) (t : Tree) → Legal t → open_refusal L p t ≡ None → MayOpen L p t
 unfolding open_refusal first_refusal earlier_checks line_above_63
 open_may L p t legal h =
     let one = none_strikes (ltb 63 L) 1 _ h in
@@ -71,20 +72,20 @@ open_may L p t legal h =
 
 -- Each refusal of an open, in its sequence
 
-pub open_refused_1 : (L p : ℕ) (t : Tree) → 63 < L → open_refusal L p t ≡ some 1
+pub open_refused_1 : (L p : ℕ) (t : Tree) → 63 < L → open_refusal L p t ≡ Some 1
 unfolding open_refusal first_refusal earlier_checks line_above_63
 open_refused_1 L p t above = rw (lt-ltb 63 L above)
 
-pub open_refused_2 : (L p : ℕ) (t : Tree) → L ≤ 63 → period_out_of_range p ≡ true → open_refusal L p t ≡ some 2
+pub open_refused_2 : (L p : ℕ) (t : Tree) → L ≤ 63 → period_out_of_range p ≡ true → open_refusal L p t ≡ Some 2
 unfolding open_refusal first_refusal earlier_checks line_above_63
 open_refused_2 L p t number out = rw (le-ltb 63 L number, out)
 
-pub open_refused_3 : (L p : ℕ) (t : Tree) → L ≤ 63 → period_out_of_range p ≡ false → is_open L t ≡ true → open_refusal L p t ≡ some 3
+pub open_refused_3 : (L p : ℕ) (t : Tree) → L ≤ 63 → period_out_of_range p ≡ false → is_open L t ≡ true → open_refusal L p t ≡ Some 3
 unfolding open_refusal first_refusal earlier_checks line_above_63
 open_refused_3 L p t number inside there = rw (le-ltb 63 L number, inside, there)
 
 -- the last check decides where no earlier one refuses
-pub open_last_check : (L p : ℕ) (t : Tree) → L ≤ 63 → period_out_of_range p ≡ false → is_open L t ≡ false → open_refusal L p t ≡ (if no_room p t then some 5 else none)
+pub open_last_check : (L p : ℕ) (t : Tree) → L ≤ 63 → period_out_of_range p ≡ false → is_open L t ≡ false → open_refusal L p t ≡ (if no_room p t then Some 5 else None)
 unfolding open_refusal first_refusal earlier_checks line_above_63
 open_last_check L p t number inside absent = rw (le-ltb 63 L number, inside, absent)
 
@@ -102,15 +103,15 @@ period_in_range p positive most = rw (ne_eqb p 0 (λ zero. omega arith), le-ltb 
 
 -- The refusals of close, show and turns
 
-pub line_refused_1 : (L : ℕ) (t : Tree) → 63 < L → line_refusal L t ≡ some 1
+pub line_refused_1 : (L : ℕ) (t : Tree) → 63 < L → line_refusal L t ≡ Some 1
 unfolding line_refusal first_refusal line_above_63
 line_refused_1 L t above = rw (lt-ltb 63 L above)
 
-pub line_refused_4 : (L : ℕ) (t : Tree) → L ≤ 63 → is_open L t ≡ false → line_refusal L t ≡ some 4
+pub line_refused_4 : (L : ℕ) (t : Tree) → L ≤ 63 → is_open L t ≡ false → line_refusal L t ≡ Some 4
 unfolding line_refusal first_refusal line_above_63
 line_refused_4 L t number absent = rw (le-ltb 63 L number, absent)
 
-pub close_allowed : (L : ℕ) (t : Tree) → L ≤ 63 → is_open L t ≡ true → line_refusal L t ≡ none
+pub close_allowed : (L : ℕ) (t : Tree) → L ≤ 63 → is_open L t ≡ true → line_refusal L t ≡ None
 unfolding line_refusal first_refusal line_above_63
 close_allowed L t number h = rw (le-ltb 63 L number, h)
 
@@ -118,10 +119,10 @@ abbrev one_or_four : Bool → ℕ
 one_or_four above = if above then 1 else 4
 
 first_of_two : (above is_there : Bool) → is_there ≡ false →
-    (if above then some 1 else (if not is_there then some 4 else none)) ≡ some (one_or_four above)
+    (if above then Some 1 else (if not is_there then Some 4 else None)) ≡ Some (one_or_four above)
 first_of_two true is_there h = refl
 first_of_two false is_there h = rw h
 
-pub close_refused : (L : ℕ) (t : Tree) → is_open L t ≡ false → line_refusal L t ≡ some (if line_above_63 L then 1 else 4)
+pub close_refused : (L : ℕ) (t : Tree) → is_open L t ≡ false → line_refusal L t ≡ Some (if line_above_63 L then 1 else 4)
 unfolding line_refusal first_refusal
 close_refused L t h = first_of_two (line_above_63 L) (is_open L t) h

@@ -7,7 +7,7 @@ use native.Mathlib.Omega.{arith}
 use mathlib.Core.Path.{◌≡◌, refl, sym, ◌∙◌, ap, ap₂}
 use mathlib.Core.Bool.{Bool, true, false, false≢true, not-eq-not, and-false}
 use mathlib.Core.Logic.{inl, inr}
-use mathlib.Core.Option.{Option, none, some, map}
+use Rattle.std.specs.Prelude.{Option, None, Some, option_map}
 use Rattle.tree.specs.Numbers.{divides}
 use Rattle.tree.specs.Search.{found}
 use Rattle.tree.specs.Tree.{Tree, nothing, line, node, Place, product, at_digits, at, way_by_digits, way, step}
@@ -38,15 +38,15 @@ module _ (C : ℕ → Place → Type 0) (offer : ℕ → Option Place) (P : (e :
 abbrev Under : ℕ → ℕ → (Place → Type 0) → Place → Type 0
 Under w e C b = (a : Place) × C a × (b ≡ under w e a)
 
-picks_under : (w e : ℕ) (C : Place → Type 0) → 0 < w → (o : Option Place) → Picks C o → Picks (Under w e C) (map (under w e) o)
-picks_under w e C v none P = λ b h. P h.0 h.1
-picks_under w e C v (some a) P =
+picks_under : (w e : ℕ) (C : Place → Type 0) → 0 < w → (o : Option Place) → Picks C o → Picks (Under w e C) (option_map (under w e) o)
+picks_under w e C v None P = λ b h. P h.0 h.1
+picks_under w e C v (Some a) P =
     ((a, P.0, refl), λ b h. rw (h.2, under_keeps_order w e h.0 a v) (P.1 h.0 h.1))
 
 abbrev place : ℕ → ℕ → Place
 place l r = record { level = l; offset = r }
 
-picks_root : (t : Bool) → Picks (λ b. (b ≡ place 0 0) × (t ≡ true)) (if t then some (place 0 0) else none)
+picks_root : (t : Bool) → Picks (λ b. (b ≡ place 0 0) × (t ≡ true)) (if t then Some (place 0 0) else None)
 picks_root true = ((refl, refl), λ b h. rw h.0 (before_not_self (place 0 0)))
 picks_root false = λ b h. false≢true h.1
 
@@ -124,12 +124,12 @@ chosen_picks p t v =
 
 -- The search finds the chosen place, and none only where no node is a candidate
 
-pub chosen_is_chosen : (p : ℕ) (t : Tree) (a : Place) → Proper t → chosen p t ≡ some a → IsChosen p t a
+pub chosen_is_chosen : (p : ℕ) (t : Tree) (a : Place) → Proper t → chosen p t ≡ Some a → IsChosen p t a
 chosen_is_chosen p t a v e =
     let P = rw e at (chosen_picks p t v) in
     record { is_candidate = P.0; none_before = P.1 }
 
-pub chosen_none : (p : ℕ) (t : Tree) → Proper t → chosen p t ≡ none → NoCandidate p t
+pub chosen_none : (p : ℕ) (t : Tree) → Proper t → chosen p t ≡ None → NoCandidate p t
 unfolding NoCandidate
 chosen_none p t v e a = not-eq-not.0 ((rw e at (chosen_picks p t v)) a)
 
@@ -138,18 +138,18 @@ chosen_none p t v e a = not-eq-not.0 ((rw e at (chosen_picks p t v)) a)
 pub chosen_only : (p : ℕ) (t : Tree) (a b : Place) → IsChosen p t a → IsChosen p t b → a ≡ b
 chosen_only p t a b A B = before_total a b (B.none_before a A.is_candidate) (A.none_before b B.is_candidate)
 
-pub no_candidate_chosen_none : (p : ℕ) (t : Tree) → Proper t → NoCandidate p t → chosen p t ≡ none
+pub no_candidate_chosen_none : (p : ℕ) (t : Tree) → Proper t → NoCandidate p t → chosen p t ≡ None
 unfolding NoCandidate
 no_candidate_chosen_none p t v h = by_outcome (chosen p t) refl
   where
-    by_outcome : (o : Option Place) → chosen p t ≡ o → o ≡ none
-    by_outcome none e = refl
-    by_outcome (some a) e = absurd (false≢true (sym (h a) ∙ (chosen_is_chosen p t a v e).is_candidate))
+    by_outcome : (o : Option Place) → chosen p t ≡ o → o ≡ None
+    by_outcome None e = refl
+    by_outcome (Some a) e = absurd (false≢true (sym (h a) ∙ (chosen_is_chosen p t a v e).is_candidate))
 
-pub is_chosen_chosen : (p : ℕ) (t : Tree) (a : Place) → Proper t → IsChosen p t a → chosen p t ≡ some a
+pub is_chosen_chosen : (p : ℕ) (t : Tree) (a : Place) → Proper t → IsChosen p t a → chosen p t ≡ Some a
 unfolding NoCandidate
 is_chosen_chosen p t a v A = by_outcome (chosen p t) refl
   where
-    by_outcome : (o : Option Place) → chosen p t ≡ o → o ≡ some a
-    by_outcome none e = absurd (false≢true (sym (chosen_none p t v e a) ∙ A.is_candidate))
-    by_outcome (some b) e = ap some (chosen_only p t b a (chosen_is_chosen p t b v e) A)
+    by_outcome : (o : Option Place) → chosen p t ≡ o → o ≡ Some a
+    by_outcome None e = absurd (false≢true (sym (chosen_none p t v e a) ∙ A.is_candidate))
+    by_outcome (Some b) e = ap Some (chosen_only p t b a (chosen_is_chosen p t b v e) A)

@@ -7,7 +7,7 @@ use mathlib.Core.Path.{◌≡◌, refl, sym, ◌∙◌, ap}
 use mathlib.Core.Logic.{◌↔◌}
 use mathlib.Core.Bool.{Bool, true, false, not, and-eq-true_iff}
 use mathlib.Core.List.{List}
-use mathlib.Core.Option.{Option, none, some}
+use Rattle.std.specs.Prelude.{Option, None, Some}
 use lib.ListN.{length}
 use borrow.Author.Tests.{not-true}
 use Rattle.tree.specs.Search.{found}
@@ -32,11 +32,11 @@ use Rattle.tree.proofs.Agreement.{Agree, ledger_open, agree_at_first, point, agr
 
 -- What a call answers
 
-answer_refused : (c : Call) (t : Tree) (n : ℕ) → refusal c t ≡ some n → answer c t ≡ refused n
+answer_refused : (c : Call) (t : Tree) (n : ℕ) → refusal c t ≡ Some n → answer c t ≡ refused n
 unfolding answer answer_unless
 answer_refused c t n h = rw h
 
-answer_given : (c : Call) (t : Tree) → refusal c t ≡ none → answer c t ≡ reply c t
+answer_given : (c : Call) (t : Tree) → refusal c t ≡ None → answer c t ≡ reply c t
 unfolding answer answer_unless
 answer_given c t h = rw h
 
@@ -54,8 +54,8 @@ unfolding Refused
 given_unless_refused c t not_refused = go (refusal c t) refl
   where
     go : (o : Option ℕ) → refusal c t ≡ o → answer c t ≡ reply c t
-    go none e = answer_given c t e
-    go (some n) e = absurd (not_refused (n, answer_refused c t n e))
+    go None e = answer_given c t e
+    go (Some n) e = absurd (not_refused (n, answer_refused c t n e))
 
 -- An open, and a close, at a point of the list
 
@@ -91,15 +91,15 @@ module _ (ledger : Ledger) (t : Tree) (agree : Agree ledger t) where
     earlier_on_tree : (o : Option ℕ) → earlier ≡ o → first_refusal (earlier_checks L p (is_open L t)) ≡ o
     earlier_on_tree o h = ap (λ (b : Bool). first_refusal (earlier_checks L p b)) (sym (ledger_open ledger t agree L)) ∙ h
 
-    refused_full : earlier ≡ none → no_room p t ≡ true → answer (open_line L p) t ≡ refused 5
+    refused_full : earlier ≡ None → no_room p t ≡ true → answer (open_line L p) t ≡ refused 5
     unfolding refusal
-    refused_full passed full = answer_refused (open_line L p) t 5 (rw (refused_by_5 L p t (earlier_on_tree none passed), full))
+    refused_full passed full = answer_refused (open_line L p) t 5 (rw (refused_by_5 L p t (earlier_on_tree None passed), full))
 
-    booked_free : earlier ≡ none → no_room p t ≡ false → answer (open_line L p) t ≡ booked (start_given p t)
+    booked_free : earlier ≡ None → no_room p t ≡ false → answer (open_line L p) t ≡ booked (start_given p t)
     unfolding refusal reply
-    booked_free passed free = answer_given (open_line L p) t (rw (refused_by_5 L p t (earlier_on_tree none passed), free))
+    booked_free passed free = answer_given (open_line L p) t (rw (refused_by_5 L p t (earlier_on_tree None passed), free))
 
-    full_if_refused : earlier ≡ none → Refused (answer (open_line L p) t) → no_room p t ≡ true
+    full_if_refused : earlier ≡ None → Refused (answer (open_line L p) t) → no_room p t ≡ true
     full_if_refused passed was_refused = go (no_room p t) refl
       where
         go : (b : Bool) → no_room p t ≡ b → no_room p t ≡ true
@@ -110,7 +110,7 @@ module _ (ledger : Ledger) (t : Tree) (agree : Agree ledger t) where
     unfolding Refused refusal reply
     open_answered =
         record {
-          failed_earlier = λ n failed. answer_refused (open_line L p) t n (refused_earlier L p t n (earlier_on_tree (some n) failed));
+          failed_earlier = λ n failed. answer_refused (open_line L p) t n (refused_earlier L p t n (earlier_on_tree (Some n) failed));
           refused_exactly =
               λ passed. (
                 λ was_refused. (no_room_exactly p).0 (full_if_refused passed was_refused),
@@ -121,18 +121,18 @@ module _ (ledger : Ledger) (t : Tree) (agree : Agree ledger t) where
         }
 
   module _ (L : ℕ) where
-    close_not_open : ledger L ≡ none → answer (close_line L) t ≡ refused (if line_above_63 L then 1 else 4)
+    close_not_open : ledger L ≡ None → answer (close_line L) t ≡ refused (if line_above_63 L then 1 else 4)
     unfolding refusal found
     close_not_open e =
         answer_refused (close_line L) t _ (close_refused L t (sym (ledger_open ledger t agree L) ∙ ap found e))
 
-    not_open_if_refused : Refused (answer (close_line L) t) → ledger L ≡ none
+    not_open_if_refused : Refused (answer (close_line L) t) → ledger L ≡ None
     unfolding refusal reply
     not_open_if_refused was_refused = go (ledger L) refl
       where
-        go : (o : Option Booking) → ledger L ≡ o → ledger L ≡ none
-        go none e = e
-        go (some b) e =
+        go : (o : Option Booking) → ledger L ≡ o → ledger L ≡ None
+        go None e = e
+        go (Some b) e =
             let stands = agree.stands L b e in
             let allowed = close_allowed L t (stands_number L t b.period b.start agree.legal stands) (stands_open L t b.period b.start stands) in
             absurd (done_not_refused _ (answer_given (close_line L) t allowed) was_refused)
@@ -149,7 +149,7 @@ module _ (ledger : Ledger) (t : Tree) (agree : Agree ledger t) where
 -- The ledger and the tree that agree, after the list
 
 module _ (ledger : Ledger) (t : Tree) (agree : Agree ledger t) where
-  owned_exactly : (n L : ℕ) → (owner n t ≡ some L) ↔ ((b : Booking) × (ledger L ≡ some b) × RoundFits n b)
+  owned_exactly : (n L : ℕ) → (owner n t ≡ Some L) ↔ ((b : Booking) × (ledger L ≡ Some b) × RoundFits n b)
   unfolding RoundFits
   owned_exactly n L = (
     λ h. (let x = walk_owns L n t (legal_proper t agree.legal) h in
@@ -157,24 +157,24 @@ module _ (ledger : Ledger) (t : Tree) (agree : Agree ledger t) where
     λ h. stands_walk L n t h.0.period h.0.start (agree.stands L h.0 h.1) h.2,
   )
 
-  fits_one : (n L M : ℕ) (b c : Booking) → ledger L ≡ some b → ledger M ≡ some c → RoundFits n b → RoundFits n c → L ≡ M
+  fits_one : (n L M : ℕ) (b c : Booking) → ledger L ≡ Some b → ledger M ≡ Some c → RoundFits n b → RoundFits n c → L ≡ M
   fits_one n L M b c at_L at_M fits_b fits_c =
       let by_L = (owned_exactly n L).1 (b, at_L, fits_b) in
       let by_M = (owned_exactly n M).1 (c, at_M, fits_c) in
       cc
 
-  eleven_above : (L : ℕ) (b : Booking) → ledger L ≡ some b → length (path_of L t) ≤ 11
+  eleven_above : (L : ℕ) (b : Booking) → ledger L ≡ Some b → length (path_of L t) ≤ 11
   unfolding is_open path_of
   eleven_above L b e =
       let x = found_some (path L t) (stands_open L t b.period b.start (agree.stands L b e)) in
       rw x.1 (at_most_11_above t L x.0 agree.legal x.1)
 
-  none_above_63 : (L : ℕ) → 63 < L → ledger L ≡ none
+  none_above_63 : (L : ℕ) → 63 < L → ledger L ≡ None
   none_above_63 L above = go (ledger L) refl
     where
-      go : (o : Option Booking) → ledger L ≡ o → ledger L ≡ none
-      go none e = e
-      go (some b) e =
+      go : (o : Option Booking) → ledger L ≡ o → ledger L ≡ None
+      go None e = e
+      go (Some b) e =
           let most = stands_number L t b.period b.start agree.legal (agree.stands L b e) in
           absurd (omega arith)
 

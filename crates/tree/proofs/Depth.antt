@@ -8,7 +8,8 @@ use mathlib.Core.Path.{◌≡◌, refl, ◌∙◌, ap, subst}
 use mathlib.Core.Logic.{◌⊎◌, inl, inr}
 use mathlib.Core.Bool.{true, false≢true}
 use mathlib.Core.List.{List, [], ◌∷◌}
-use mathlib.Core.Option.{none, some, get_or, none-ne-some}
+use Rattle.std.specs.Prelude.{None, Some, unwrap_or}
+use Rattle.std.proofs.lemmas.Option.{none-some}
 use lib.ListN.{length}
 use lib.Pow.{pow_mono}
 use Rattle.tree.specs.declared.Row.{Row}
@@ -25,9 +26,9 @@ use Rattle.tree.proofs.Totals.{total_at_most, total_monotone, total_less, total_
 -- The nodes above a line
 
 -- a row stands for a weight of at least 2, and all weights above a line multiply to at most 4095
-rows_fit : (m : ℕ) (t : Tree) (L : ℕ) (rs : List Row) → LegalUnder m t → path L t ≡ some rs → m * 2 ^ length rs ≤ 4095
+rows_fit : (m : ℕ) (t : Tree) (L : ℕ) (rs : List Row) → LegalUnder m t → path L t ≡ Some rs → m * 2 ^ length rs ≤ 4095
 unfolding LegalUnder path
-rows_fit m nothing L rs legal h = absurd (none-ne-some rs h)
+rows_fit m nothing L rs legal h = absurd (none-some rs h)
 rows_fit m (line n) L rs legal h = rw ((path_of_line L n rs h).1, mul-one) legal.1
 rows_fit m (node w f) L rs legal h =
     let x = path_below L w f rs h in
@@ -36,7 +37,7 @@ rows_fit m (node w f) L rs legal h =
     (omega (arith, mul-le-mul_right (2 ^ length x.rest) (mul-le-mul_left m legal.0)))
 
 -- the line of a root of weight 1 has that root's row for a path
-pub alone_path : (t : Tree) (L : ℕ) (rs : List Row) → Alone t → path L t ≡ some rs → rs ≡ row 1 0 ∷ []
+pub alone_path : (t : Tree) (L : ℕ) (rs : List Row) → Alone t → path L t ≡ Some rs → rs ≡ row 1 0 ∷ []
 unfolding one_edge
 alone_path t L rs alone h =
     let x = path_below L 1 _ rs (rw alone.tree at h) in
@@ -47,9 +48,9 @@ alone_path t L rs alone h =
     x.rows_are ∙ rw (edge_0, ends.1)
 
 -- at most 11 nodes above an open line
-pub at_most_11_above : (t : Tree) (L : ℕ) (rs : List Row) → Legal t → path L t ≡ some rs → length rs ≤ 11
+pub at_most_11_above : (t : Tree) (L : ℕ) (rs : List Row) → Legal t → path L t ≡ Some rs → length rs ≤ 11
 unfolding Legal path
-at_most_11_above nothing L rs legal h = absurd (none-ne-some rs h)
+at_most_11_above nothing L rs legal h = absurd (none-some rs h)
 at_most_11_above (line n) L rs legal h = absurd legal
 at_most_11_above (node w f) L rs (inr alone) h =
     omega (arith, ap length (alone_path (node w f) L rs alone h))
@@ -116,9 +117,9 @@ rows_above t L = length (path_of L t)
 no_rows_or_open : (t : Tree) (L : ℕ) → (rows_above t L ≡ 0) ⊎ (is_open L t ≡ true)
 unfolding rows_above path_of is_open found
 no_rows_or_open t L =
-    elim (path L t) as (λ o. (length (get_or o []) ≡ 0) ⊎ (found o ≡ true)) [ none ↦ inl refl | some rs ↦ inr refl ]
+    elim (path L t) as (λ o. (length (unwrap_or o []) ≡ 0) ⊎ (found o ≡ true)) [ None ↦ inl refl | Some rs ↦ inr refl ]
 
-path_rows : (t : Tree) (L : ℕ) (rs : List Row) → path L t ≡ some rs → rows_above t L ≡ length rs
+path_rows : (t : Tree) (L : ℕ) (rs : List Row) → path L t ≡ Some rs → rows_above t L ≡ length rs
 unfolding rows_above path_of
 path_rows t L rs h = rw h
 

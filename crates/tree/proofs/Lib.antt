@@ -20,6 +20,7 @@ pub mod Split
 pub mod Booking
 pub mod BookingAt
 pub mod Opening
+pub mod Options
 -- Closing
 pub mod Closing
 -- How large a tree can be

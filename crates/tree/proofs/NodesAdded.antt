@@ -8,7 +8,7 @@ use native.Mathlib.Decide.{dec_lt}
 use native.Mathlib.Nat.{one-mul, mul-one, mul_assoc, mod-lt, mod-eq_of_lt}
 use mathlib.Core.Path.{◌≡◌, refl, ap, subst}
 use mathlib.Core.Bool.{Bool, true, false, not}
-use mathlib.Core.Option.{Option, none, some}
+use Rattle.std.specs.Prelude.{Option, None, Some}
 use lib.Dec.{eqb, ltb}
 use borrow.Author.Tests.{lt-ltb, le-ltb}
 use Rattle.tree.specs.Search.{total_below, count_below}
@@ -155,7 +155,7 @@ pub opened_nodes_empty : (L p : ℕ) → nodes (opened L p nothing) ≡ 1
 opened_nodes_empty L p = rw (opened_empty L p) (one_edge_nodes p L)
 
 -- those of the booking into the chosen candidate, in any other
-pub opened_nodes : (L p : ℕ) (t : Tree) (a : Place) → MayOpen L p t → present t ≡ true → chosen p t ≡ some a →
+pub opened_nodes : (L p : ℕ) (t : Tree) (a : Place) → MayOpen L p t → present t ≡ true → chosen p t ≡ Some a →
     nodes (opened L p t) ≡ nodes t + nodes_added_in p (step a t) (at a t)
 unfolding opened book_into step way at
 opened_nodes L p t a may here is_chosen =
@@ -179,12 +179,12 @@ unfolding after refusal carried_out tree_unless
 open_never_lowers_nodes L p t legal = go (open_refusal L p t) refl
   where
     go : (o : Option ℕ) → open_refusal L p t ≡ o → nodes t ≤ nodes (tree_unless o t (opened L p t))
-    go (some n) e = omega arith
-    go none e = opened_at_least_nodes L p t (open_may L p t legal e)
+    go (Some n) e = omega arith
+    go None e = opened_at_least_nodes L p t (open_may L p t legal e)
 
 -- What a trial tells of them
 
-pub trial_added : (L p : ℕ) (t : Tree) (a : Place) → MayOpen L p t → present t ≡ true → chosen p t ≡ some a →
+pub trial_added : (L p : ℕ) (t : Tree) (a : Place) → MayOpen L p t → present t ≡ true → chosen p t ≡ Some a →
     (trial L p t).added ≡ nodes_added_in p (step a t) (at a t)
 unfolding trial
 trial_added L p t a may here is_chosen = omega (arith, opened_nodes L p t a may here is_chosen)

@@ -5,7 +5,7 @@ use native.Mathlib.Omega.{arith}
 use native.Mathlib.Nat.{mul-one, one-mul, mul_assoc}
 use mathlib.Core.Path.{◌≡◌, sym, subst}
 use mathlib.Core.Logic.{inl, inr}
-use mathlib.Core.Option.{some}
+use Rattle.std.specs.Prelude.{Some}
 use Rattle.tree.specs.Tree.{Tree, nothing, line, node}
 use Rattle.tree.specs.Standing.{Stands}
 use Rattle.tree.specs.Shape.{LegalUnder, Legal}
@@ -30,7 +30,7 @@ stands_number L (node w f) q u (inr alone) h =
     subst (λ (k : ℕ). k ≤ 63) (sym (alone_line L (node w f) q u alone h).0) alone.number_in_range
 
 -- an owner is one of the 64 lines
-pub owner_below_64 : (n : ℕ) (t : Tree) (L : ℕ) → Legal t → owner n t ≡ some L → L < 64
+pub owner_below_64 : (n : ℕ) (t : Tree) (L : ℕ) → Legal t → owner n t ≡ Some L → L < 64
 owner_below_64 n t L is_legal named = omega (arith, stands_number L t _ _ is_legal (walk_owns L n t (legal_proper t is_legal) named).stands)
 
 under_period : (L m : ℕ) (t : Tree) (q u : ℕ) → LegalUnder m t → Stands L t q u → m * q ≤ 4095

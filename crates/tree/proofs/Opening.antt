@@ -8,7 +8,7 @@ use native.Mathlib.Nat.{one-mul, mul-zero, div-eq_of_lt}
 use mathlib.Core.Path.{◌≡◌, refl, sym, ◌∙◌, ap, subst}
 use mathlib.Core.Logic.{◌⊎◌, inl, inr}
 use mathlib.Core.Bool.{true, false}
-use mathlib.Core.Option.{some}
+use Rattle.std.specs.Prelude.{Some}
 use borrow.Author.Tests.{not-false}
 use Rattle.tree.specs.Tree.{Tree, nothing, line, node, present, is_open, Place, at_digits, at, way, step}
 use Rattle.tree.specs.Standing.{Stands}
@@ -32,7 +32,7 @@ at_proper (suc l) r nothing proper = tt
 at_proper (suc l) r (line n) proper = tt
 at_proper (suc l) r (node w f) proper = at_proper l (r / w) (f (r % w)) (proper.2 (r % w))
 
-pub chosen_fits : (p : ℕ) (t : Tree) (a : Place) → 0 < p → Proper t → chosen p t ≡ some a →
+pub chosen_fits : (p : ℕ) (t : Tree) (a : Place) → 0 < p → Proper t → chosen p t ≡ Some a →
     FitIn p (1 * steps a.level a.offset t) (class_at p t a) (at_digits a.level a.offset t)
 unfolding class_at candidate_at at step way
 chosen_fits p t a positive proper e =
@@ -46,7 +46,7 @@ one_edge_no_fit p m i n zero zero h =
     let d = divisor p m 1 in
     let room = h.room in
     let two = divisor_at_least_2 d (p / (m * d)) 1 (put 0 (line n) (λ e. nothing)) i room (one_edge_edges 1 (line n) (omega arith) refl) in
-    let none : d * (1 / d) ≡ 0 = ap (λ (k : ℕ). d * k) (div-eq_of_lt two) ∙ mul-zero d in
+    let None : d * (1 / d) ≡ 0 = ap (λ (k : ℕ). d * k) (div-eq_of_lt two) ∙ mul-zero d in
     let one = room.divides_weight in
     omega arith
 one_edge_no_fit p m i n zero (suc r) h = h
@@ -70,7 +70,7 @@ pub record MayOpen (L p : ℕ) (t : Tree) : Type 0 where
   pub has_room : no_room p t ≡ false
 
 -- in a tree that is not empty, a candidate was chosen
-pub room_chosen : (p : ℕ) (t : Tree) → present t ≡ true → no_room p t ≡ false → (a : Place) × (chosen p t ≡ some a)
+pub room_chosen : (p : ℕ) (t : Tree) → present t ≡ true → no_room p t ≡ false → (a : Place) × (chosen p t ≡ Some a)
 unfolding no_room
 room_chosen p t here h = found_some (chosen p t) (not-false _ (rw here at h))
 

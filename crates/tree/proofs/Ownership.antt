@@ -5,7 +5,8 @@ use native.Mathlib.Nat.{mod-lt, mod-one}
 use mathlib.Core.Path.{◌≡◌, refl, sym, ◌∙◌, ap}
 use mathlib.Core.Logic.{◌↔◌}
 use mathlib.Core.Bool.{Bool, true, false, false≢true}
-use mathlib.Core.Option.{Option, none, some, none-ne-some}
+use Rattle.std.specs.Prelude.{Option, None, Some}
+use Rattle.std.proofs.lemmas.Option.{none-some}
 use lib.Dec.{eqb}
 use borrow.Author.Tests.{eqb-true, eqb-false, eq-eqb}
 use Rattle.tree.specs.Tree.{Tree, nothing, line, node}
@@ -23,9 +24,9 @@ pub record RoundFitsLine (L n : ℕ) (t : Tree) : Type 0 where
   pub stands : Stands L t period start
   pub fits : n % period ≡ start
 
-pub walk_owns : (L n : ℕ) (t : Tree) → Proper t → owner n t ≡ some L → RoundFitsLine L n t
+pub walk_owns : (L n : ℕ) (t : Tree) → Proper t → owner n t ≡ Some L → RoundFitsLine L n t
 unfolding owner Proper Stands
-walk_owns L n nothing proper h = absurd (none-ne-some L h)
+walk_owns L n nothing proper h = absurd (none-some L h)
 walk_owns L n (line k) proper h = record { period = 1; start = 0; stands = ((cc), refl, refl); fits = mod-one n }
 walk_owns L n (node w f) proper h =
     let below = walk_owns L (n / w) (f (n % w)) (proper.2 (n % w)) h in
@@ -47,10 +48,10 @@ walk_owns L n (node w f) proper h =
       fits = (digit n w below.period (n % w) below.start edge_below start_below).1 (refl, below.fits);
     }
 
-pub stands_walk : (L n : ℕ) (t : Tree) (q u : ℕ) → Stands L t q u → n % q ≡ u → owner n t ≡ some L
+pub stands_walk : (L n : ℕ) (t : Tree) (q u : ℕ) → Stands L t q u → n % q ≡ u → owner n t ≡ Some L
 unfolding owner Stands
 stands_walk L n nothing q u h fits = absurd h
-stands_walk L n (line k) q u h fits = ap some h.0
+stands_walk L n (line k) q u h fits = ap Some h.0
 stands_walk L n (node w f) q u h fits =
     let start_below = start_below_period L (f h.edge) h.period h.start h.stands in
     let fits_sum : n % (w * h.period) ≡ h.edge + w * h.start = rw (h.period_is, h.start_is) at fits in
@@ -58,7 +59,7 @@ stands_walk L n (node w f) q u h fits =
     rw digits.0 (stands_walk L (n / w) (f h.edge) h.period h.start h.stands digits.1)
 
 -- for every whole number n
-pub owner_exactly : (L n : ℕ) (t : Tree) → Proper t → (owner n t ≡ some L) ↔ RoundFitsLine L n t
+pub owner_exactly : (L n : ℕ) (t : Tree) → Proper t → (owner n t ≡ Some L) ↔ RoundFitsLine L n t
 owner_exactly L n t proper =
     (walk_owns L n t proper, λ h. stands_walk L n t h.period h.start h.stands h.fits)
 
@@ -75,13 +76,13 @@ pub turns_at_most : (L a N : ℕ) (t : Tree) → turns L a N t ≤ N
 unfolding turns
 turns_at_most L a N t = count_at_most N (λ i. owns L (a + i) t)
 
-pub owns_exactly : (L n : ℕ) (t : Tree) → (owns L n t ≡ true) ↔ (owner n t ≡ some L)
+pub owns_exactly : (L n : ℕ) (t : Tree) → (owns L n t ≡ true) ↔ (owner n t ≡ Some L)
 unfolding owns is_line
 owns_exactly L n t = by_owner (owner n t)
   where
-    by_owner : (o : Option ℕ) → (is_line L o ≡ true) ↔ (o ≡ some L)
-    by_owner none = (λ h. absurd (false≢true h), λ h. absurd (none-ne-some L h))
-    by_owner (some M) = (λ h. ap some (eqb-true M L h), λ h. eq-eqb M L cc)
+    by_owner : (o : Option ℕ) → (is_line L o ≡ true) ↔ (o ≡ Some L)
+    by_owner None = (λ h. absurd (false≢true h), λ h. absurd (none-some L h))
+    by_owner (Some M) = (λ h. ap Some (eqb-true M L h), λ h. eq-eqb M L cc)
 
 -- a line that stands in the tree owns the rounds that fit its period and start
 pub owns_by_times : (L n : ℕ) (t : Tree) (q u : ℕ) → Proper t → Stands L t q u → owns L n t ≡ eqb (n % q) u

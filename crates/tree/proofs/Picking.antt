@@ -7,7 +7,7 @@ use native.Mathlib.Omega.{arith}
 use mathlib.Core.Path.{◌≡◌, refl, subst}
 use mathlib.Core.Bool.{Bool, true, false}
 use mathlib.Core.Logic.{◌⊎◌, inl, inr, ⊎_elim}
-use mathlib.Core.Option.{Option, none, some}
+use Rattle.std.specs.Prelude.{Option, None, Some}
 use Rattle.tree.specs.Tree.{Place}
 use Rattle.tree.specs.Opening.{before}
 use Rattle.tree.proofs.PlaceOrder.{before_asym, not_before_trans}
@@ -18,21 +18,21 @@ Either C D b = C b ⊎ D b
 module _ {A : Type 0} (place_of : A → Place) where
   -- the search for something with property C ends so: nothing has it, or this has it and nothing with a place before it has
   abbrev pub PicksBy : (A → Type 0) → Option A → Type 0
-  PicksBy C none = (b : A) → C b → ⊥
-  PicksBy C (some a) = C a × ((b : A) → C b → before (place_of b) (place_of a) ≡ false)
+  PicksBy C None = (b : A) → C b → ⊥
+  PicksBy C (Some a) = C a × ((b : A) → C b → before (place_of b) (place_of a) ≡ false)
 
   -- of two picked, the one whose place comes first
   unfoldable pub earlier : Option A → Option A → Option A
-  earlier none b = b
-  earlier (some a) none = some a
-  earlier (some a) (some b) = if before (place_of b) (place_of a) then some b else some a
+  earlier None b = b
+  earlier (Some a) None = Some a
+  earlier (Some a) (Some b) = if before (place_of b) (place_of a) then Some b else Some a
 
   module _ (C D : A → Type 0) where
     pub picks_same : ((b : A) → C b → D b) → ((b : A) → D b → C b) → (o : Option A) → PicksBy C o → PicksBy D o
-    picks_same to from none P = λ b h. P b (from b h)
-    picks_same to from (some a) P = (to a P.0, λ b h. P.1 b (from b h))
+    picks_same to from None P = λ b h. P b (from b h)
+    picks_same to from (Some a) P = (to a P.0, λ b h. P.1 b (from b h))
 
-    picks_by_test : (a b : A) → PicksBy C (some a) → PicksBy D (some b) → (t : Bool) → before (place_of b) (place_of a) ≡ t → PicksBy (Either C D) (if t then some b else some a)
+    picks_by_test : (a b : A) → PicksBy C (Some a) → PicksBy D (Some b) → (t : Bool) → before (place_of b) (place_of a) ≡ t → PicksBy (Either C D) (if t then Some b else Some a)
     picks_by_test a b P Q true e = (
       inr Q.0,
       λ c. ⊎_elim (λ h. not_before_trans (place_of c) (place_of a) (place_of b) (P.1 c h) (before_asym (place_of b) (place_of a) e)) (Q.1 c),
@@ -42,10 +42,10 @@ module _ {A : Type 0} (place_of : A → Place) where
 
     pub picks_earlier : (o q : Option A) → PicksBy C o → PicksBy D q → PicksBy (Either C D) (earlier o q)
     unfolding earlier
-    picks_earlier none none P Q = λ c. ⊎_elim (P c) (Q c)
-    picks_earlier none (some b) P Q = (inr Q.0, λ c. ⊎_elim (λ h. absurd (P c h)) (Q.1 c))
-    picks_earlier (some a) none P Q = (inl P.0, λ c. ⊎_elim (P.1 c) (λ h. absurd (Q c h)))
-    picks_earlier (some a) (some b) P Q = picks_by_test a b P Q (before (place_of b) (place_of a)) refl
+    picks_earlier None None P Q = λ c. ⊎_elim (P c) (Q c)
+    picks_earlier None (Some b) P Q = (inr Q.0, λ c. ⊎_elim (λ h. absurd (P c h)) (Q.1 c))
+    picks_earlier (Some a) None P Q = (inl P.0, λ c. ⊎_elim (P.1 c) (λ h. absurd (Q c h)))
+    picks_earlier (Some a) (Some b) P Q = picks_by_test a b P Q (before (place_of b) (place_of a)) refl
 
 -- some number below n has property E
 abbrev pub Below : ℕ → (ℕ → Type 0) → Type 0

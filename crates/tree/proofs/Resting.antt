@@ -7,7 +7,7 @@ use native.Mathlib.Decide.{dec_lt}
 use mathlib.Core.Path.{◌≡◌, refl, sym, ◌∙◌, ap}
 use mathlib.Core.Logic.{◌↔◌}
 use mathlib.Core.Bool.{Bool, true, false, true≢false, false≢true}
-use mathlib.Core.Option.{Option, none, some, get_or}
+use Rattle.std.specs.Prelude.{Option, None, Some, unwrap_or}
 use Rattle.tree.specs.Search.{found, smallest}
 use Rattle.tree.specs.Tree.{Tree, nothing, present}
 use Rattle.tree.specs.Shape.{Legal}
@@ -61,9 +61,9 @@ module _ (t : Tree) (is_legal : Legal t) (n : ℕ) where
   unfolding rest
   found_rest here = rw here (by_search (smallest 4095 (λ g. owned (n + g) t)) refl)
     where
-      by_search : (o : Option ℕ) → smallest 4095 (λ g. owned (n + g) t) ≡ o → Smallest 4095 (λ g. owned (n + g) t) (get_or o 0)
-      by_search (some g) e = smallest_some 4095 _ g e
-      by_search none e = let x = owned_within here in absurd (true≢false (sym x.2 ∙ smallest_none 4095 _ e x.0 x.1))
+      by_search : (o : Option ℕ) → smallest 4095 (λ g. owned (n + g) t) ≡ o → Smallest 4095 (λ g. owned (n + g) t) (unwrap_or o 0)
+      by_search (Some g) e = smallest_some 4095 _ g e
+      by_search None e = let x = owned_within here in absurd (true≢false (sym x.2 ∙ smallest_none 4095 _ e x.0 x.1))
 
   rest_empty : present t ≡ false → rest n t ≡ 0
   unfolding rest
@@ -98,7 +98,7 @@ module _ (t : Tree) (is_legal : Legal t) (n : ℕ) where
       by_test false empty = omega (arith, rest_empty empty)
 
   -- of an idle round at least 1, where there is a line
-  pub rest_at_least : owner n t ≡ none → present t ≡ true → 1 ≤ rest n t
+  pub rest_at_least : owner n t ≡ None → present t ≡ true → 1 ≤ rest n t
   unfolding owned found
   rest_at_least idle here = by_rest (rest n t) (found_rest here).passes
     where
@@ -107,7 +107,7 @@ module _ (t : Tree) (is_legal : Legal t) (n : ℕ) where
       by_rest (suc g) later = omega arith
 
   -- (Ask 4, 3) of an idle round 0 in the empty plan only
-  pub rest_0_exactly : owner n t ≡ none → (rest n t ≡ 0) ↔ (present t ≡ false)
+  pub rest_0_exactly : owner n t ≡ None → (rest n t ≡ 0) ↔ (present t ≡ false)
   rest_0_exactly idle = (by_test (present t) refl, rest_empty)
     where
       by_test : (b : Bool) → present t ≡ b → rest n t ≡ 0 → b ≡ false
@@ -118,22 +118,22 @@ module _ (t : Tree) (is_legal : Legal t) (n : ℕ) where
 
 module _ (n : ℕ) (t : Tree) where
   -- a line is answered exactly when it is the owner
-  pub owned_exactly : (L : ℕ) → (owner_or_rest n t ≡ owned_by L) ↔ (owner n t ≡ some L)
+  pub owned_exactly : (L : ℕ) → (owner_or_rest n t ≡ owned_by L) ↔ (owner n t ≡ Some L)
   unfolding owner_or_rest or_rest
   owned_exactly L = (by_owner (owner n t), λ line_found. rw line_found)
     where
-      by_owner : (o : Option ℕ) → or_rest o (rest n t) ≡ owned_by L → o ≡ some L
-      by_owner none told = let z : ◌≡◌ {A = ℕ} 0 1 = cc in absurd (omega arith)
-      by_owner (some M) told = cc
+      by_owner : (o : Option ℕ) → or_rest o (rest n t) ≡ owned_by L → o ≡ Some L
+      by_owner None told = let z : ◌≡◌ {A = ℕ} 0 1 = cc in absurd (omega arith)
+      by_owner (Some M) told = cc
 
   -- and a rest exactly when there is no owner and it is the rest
-  pub idle_exactly : (g : ℕ) → (owner_or_rest n t ≡ idle_for g) ↔ ((owner n t ≡ none) × (rest n t ≡ g))
+  pub idle_exactly : (g : ℕ) → (owner_or_rest n t ≡ idle_for g) ↔ ((owner n t ≡ None) × (rest n t ≡ g))
   unfolding owner_or_rest or_rest
   idle_exactly g = (by_owner (owner n t), λ idle. rw (idle.0, idle.1))
     where
-      by_owner : (o : Option ℕ) → or_rest o (rest n t) ≡ idle_for g → (o ≡ none) × (rest n t ≡ g)
-      by_owner none told = (refl, cc)
-      by_owner (some M) told = let z : ◌≡◌ {A = ℕ} 0 1 = cc in absurd (omega arith)
+      by_owner : (o : Option ℕ) → or_rest o (rest n t) ≡ idle_for g → (o ≡ None) × (rest n t ≡ g)
+      by_owner None told = (refl, cc)
+      by_owner (Some M) told = let z : ◌≡◌ {A = ℕ} 0 1 = cc in absurd (omega arith)
 
   -- in the empty plan every round is idle, with rest 0
   pub idle_in_empty : t ≡ nothing → owner_or_rest n t ≡ idle_for 0

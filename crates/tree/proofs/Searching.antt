@@ -9,7 +9,9 @@ use mathlib.Core.Path.{◌≡◌, refl, sym, ◌∙◌, ap}
 use mathlib.Core.Logic.{◌⊎◌, inl, inr}
 use mathlib.Core.Bool.{Bool, true, false, not, true≢false, false≢true}
 use mathlib.Core.List.{[], ◌∷◌}
-use mathlib.Core.Option.{Option, none, some, some-ne-none, none-ne-some}
+use Rattle.std.specs.Prelude.{Option, None, Some}
+use Rattle.tree.proofs.Options.{some-none}
+use Rattle.std.proofs.lemmas.Option.{none-some}
 use lib.ListN.{length, get_or, length-append, get_or-append}
 use lib.Seq.{get_or_at}
 use borrow.Author.Tests.{not-true, not-false}
@@ -23,31 +25,31 @@ last_or_below i n h = eq-or-lt_of_le (le_of_suc-le-suc h)
 pub record FirstAt {A : Type 0} (n : ℕ) (offer : ℕ → Option A) (a : A) : Type 0 where
   pub index : ℕ
   pub index_below : index < n
-  pub offers : offer index ≡ some a
-  pub none_earlier : (j : ℕ) → j < index → offer j ≡ none
+  pub offers : offer index ≡ Some a
+  pub none_earlier : (j : ℕ) → j < index → offer j ≡ None
 
 module _ {A : Type 0} where
-  pub found_some : (o : Option A) → found o ≡ true → (a : A) × (o ≡ some a)
+  pub found_some : (o : Option A) → found o ≡ true → (a : A) × (o ≡ Some a)
   unfolding found
-  found_some none h = absurd (false≢true h)
-  found_some (some a) h = (a, refl)
+  found_some None h = absurd (false≢true h)
+  found_some (Some a) h = (a, refl)
 
-  pub found_none : (o : Option A) → found o ≡ false → o ≡ none
+  pub found_none : (o : Option A) → found o ≡ false → o ≡ None
   unfolding found
-  found_none none h = refl
-  found_none (some a) h = absurd (true≢false h)
+  found_none None h = refl
+  found_none (Some a) h = absurd (true≢false h)
 
-  or_else_none : (a b : Option A) → or_else a b ≡ none → (a ≡ none) × (b ≡ none)
+  or_else_none : (a b : Option A) → or_else a b ≡ None → (a ≡ None) × (b ≡ None)
   unfolding or_else
-  or_else_none none b h = (refl, h)
-  or_else_none (some x) b h = absurd (some-ne-none x h)
+  or_else_none None b h = (refl, h)
+  or_else_none (Some x) b h = absurd (some-none x h)
 
-  or_else_some : (a b : Option A) (x : A) → or_else a b ≡ some x → (a ≡ some x) ⊎ ((a ≡ none) × (b ≡ some x))
+  or_else_some : (a b : Option A) (x : A) → or_else a b ≡ Some x → (a ≡ Some x) ⊎ ((a ≡ None) × (b ≡ Some x))
   unfolding or_else
-  or_else_some none b x h = inr (refl, h)
-  or_else_some (some y) b x h = inl h
+  or_else_some None b x h = inr (refl, h)
+  or_else_some (Some y) b x h = inl h
 
-  pub first_none : (n : ℕ) (offer : ℕ → Option A) → first n offer ≡ none → (i : ℕ) → i < n → offer i ≡ none
+  pub first_none : (n : ℕ) (offer : ℕ → Option A) → first n offer ≡ None → (i : ℕ) → i < n → offer i ≡ None
   unfolding first
   first_none zero offer h i below = absurd (omega arith)
   first_none (suc n) offer h i below =
@@ -59,9 +61,9 @@ module _ {A : Type 0} where
       let b = x.index_below in
       record { index = x.index; index_below = omega arith; offers = x.offers; none_earlier = x.none_earlier }
 
-  pub first_some : (n : ℕ) (offer : ℕ → Option A) (a : A) → first n offer ≡ some a → FirstAt n offer a
+  pub first_some : (n : ℕ) (offer : ℕ → Option A) (a : A) → first n offer ≡ Some a → FirstAt n offer a
   unfolding first
-  first_some zero offer a h = absurd (none-ne-some a h)
+  first_some zero offer a h = absurd (none-some a h)
   first_some (suc n) offer a h =
       elim (or_else_some (first n offer) (offer n) a h) [
         | inl e ↦ first_later n offer a (first_some n offer a e)
@@ -69,22 +71,22 @@ module _ {A : Type 0} where
       ]
 
   -- where only the number i offers something, that is what the search finds
-  pub first_only : (n : ℕ) (offer : ℕ → Option A) (i : ℕ) (a : A) → i < n → offer i ≡ some a → ((j : ℕ) (b : A) → offer j ≡ some b → j ≡ i) → first n offer ≡ some a
+  pub first_only : (n : ℕ) (offer : ℕ → Option A) (i : ℕ) (a : A) → i < n → offer i ≡ Some a → ((j : ℕ) (b : A) → offer j ≡ Some b → j ≡ i) → first n offer ≡ Some a
   first_only n offer i a below here only = go (first n offer) refl
     where
-      go : (o : Option A) → first n offer ≡ o → first n offer ≡ some a
-      go none e = absurd (some-ne-none a (sym here ∙ first_none n offer e i below))
-      go (some b) e =
+      go : (o : Option A) → first n offer ≡ o → first n offer ≡ Some a
+      go None e = absurd (some-none a (sym here ∙ first_none n offer e i below))
+      go (Some b) e =
           let x = first_some n offer b e in
           let same = only x.index b x.offers in
           e ∙ sym x.offers ∙ ap offer same ∙ here
 
-pub if_some : {A : Type 0} (b : Bool) (i a : A) → (if b then some i else none) ≡ some a → (b ≡ true) × (i ≡ a)
+pub if_some : {A : Type 0} (b : Bool) (i a : A) → (if b then Some i else None) ≡ Some a → (b ≡ true) × (i ≡ a)
 if_some true i a h = (refl, (cc))
-if_some false i a h = absurd (none-ne-some a h)
+if_some false i a h = absurd (none-some a h)
 
-if_none : (b : Bool) (i : ℕ) → (if b then some i else none) ≡ none → b ≡ false
-if_none true i h = absurd (some-ne-none i h)
+if_none : (b : Bool) (i : ℕ) → (if b then Some i else None) ≡ None → b ≡ false
+if_none true i h = absurd (some-none i h)
 if_none false i h = refl
 
 -- i is the smallest number below n that passes the test
@@ -93,7 +95,7 @@ pub record Smallest (n : ℕ) (test : ℕ → Bool) (i : ℕ) : Type 0 where
   pub passes : test i ≡ true
   pub none_smaller : (j : ℕ) → j < i → test j ≡ false
 
-pub smallest_some : (n : ℕ) (test : ℕ → Bool) (i : ℕ) → smallest n test ≡ some i → Smallest n test i
+pub smallest_some : (n : ℕ) (test : ℕ → Bool) (i : ℕ) → smallest n test ≡ Some i → Smallest n test i
 unfolding smallest
 smallest_some n test i h =
     let x = first_some n _ i h in
@@ -106,7 +108,7 @@ smallest_some n test i h =
       none_smaller = λ j k. if_none (test j) j (x.none_earlier j (omega arith));
     }
 
-pub smallest_none : (n : ℕ) (test : ℕ → Bool) → smallest n test ≡ none → (i : ℕ) → i < n → test i ≡ false
+pub smallest_none : (n : ℕ) (test : ℕ → Bool) → smallest n test ≡ None → (i : ℕ) → i < n → test i ≡ false
 unfolding smallest
 smallest_none n test h i below = if_none (test i) i (first_none n _ h i below)
 

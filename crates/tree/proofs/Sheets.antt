@@ -5,7 +5,7 @@ use Prim.Native.Nat.{ℕ, ◌+◌, ◌<◌}
 use native.Mathlib.Omega.{arith}
 use mathlib.Core.Path.{◌≡◌, refl, sym, ◌∙◌}
 use mathlib.Core.Bool.{Bool, true, false, true≢false, not-eq-not, not}
-use mathlib.Core.Option.{Option, none, some}
+use Rattle.std.specs.Prelude.{Option, None, Some}
 use lib.ListN.{replicate}
 use Rattle.tree.specs.Search.{found, each_below, count_below}
 use Rattle.tree.specs.Tree.{Tree, nothing, path, is_open}
@@ -26,7 +26,7 @@ turns_on_sheet a N t L below = each_below_at 64 (λ M. line_turns M a N t) L 0 b
 
 module _ (t : Tree) (is_legal : Legal t) where
   -- a round's owner is an open line
-  owner_open : (n L : ℕ) → owner n t ≡ some L → is_open L t ≡ true
+  owner_open : (n L : ℕ) → owner n t ≡ Some L → is_open L t ≡ true
   owner_open n L named = stands_open L t _ _ (walk_owns L n t (legal_proper t is_legal) named).stands
 
   -- (Ask 5, 1) A closed line has no turns, so that the sheet lists Ask 1's figure of every line.
@@ -49,8 +49,8 @@ module _ (t : Tree) (is_legal : Legal t) where
   shared_out n = by_owner (owner n t) refl
     where
       by_owner : (o : Option ℕ) → owner n t ≡ o → count_below 64 (λ L. is_line L o) + (if not (found o) then 1 else 0) ≡ 1
-      by_owner none idle = rw (count_none 64 (λ L. false) (λ i. refl))
-      by_owner (some M) named = rw (count_only 64 M (owner_below_64 n t M is_legal named))
+      by_owner None idle = rw (count_none 64 (λ L. false) (λ i. refl))
+      by_owner (Some M) named = rw (count_only 64 M (owner_below_64 n t M is_legal named))
 
   -- (Ask 5, 3) The turns over all lines plus the idle rounds make N.
   pub sheet_adds_up : (a N : ℕ) → sheet_total (sheet a N t) ≡ N

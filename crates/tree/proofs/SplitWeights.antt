@@ -7,7 +7,8 @@ use native.Mathlib.Nat.{one-mul, mul-one, mul_assoc, mod-eq_of_lt}
 use mathlib.Core.Path.{◌≡◌, refl, ap}
 use mathlib.Core.Logic.{◌↔◌}
 use mathlib.Core.Bool.{true, false, true≢false}
-use mathlib.Core.Option.{some, none-ne-some}
+use Rattle.std.specs.Prelude.{Some}
+use Rattle.std.proofs.lemmas.Option.{none-some}
 use lib.Dec.{ltb}
 use borrow.Author.Tests.{ltb-true, ltb-false, lt-ltb}
 use Rattle.tree.specs.Tree.{Tree, nothing, line, node, present, product, Place, at_digits, at, way_by_digits, way, step}
@@ -37,7 +38,7 @@ at_booked L p i m (suc l) r (node w f) =
 
 -- in the node that is booked into, which is a node before and afterwards
 weights_here : (L p m i : ℕ) (t : Tree) → FitIn p m i t →
-    (w : ℕ) × (d : ℕ) × (weight_of t ≡ some w) × (weight_of (book_by_digits L p i m 0 0 t) ≡ some d)
+    (w : ℕ) × (d : ℕ) × (weight_of t ≡ Some w) × (weight_of (book_by_digits L p i m 0 0 t) ≡ Some d)
 unfolding FitIn weight_of book_by_digits booking
 weights_here L p m i nothing fit = absurd fit
 weights_here L p m i (line n) fit = absurd fit
@@ -53,19 +54,19 @@ split_changes_weight_here L p m i (node w f) fit = (changes, changed)
     d : ℕ
     d = divisor p m w
 
-    changes : ltb d w ≡ true → some d ≡ some w → ⊥
+    changes : ltb d w ≡ true → Some d ≡ Some w → ⊥
     changes small same =
         let equal : d ≡ w = cc in
         omega (arith, ltb-true d w small)
 
-    changed : (some d ≡ some w → ⊥) → ltb d w ≡ true
+    changed : (Some d ≡ Some w → ⊥) → ltb d w ≡ true
     changed another =
         elim (dec_lt d w) [
           | yes small ↦ lt-ltb d w small
-          | no not_small ↦ absurd (another (ap some (divisor_is_weight d w fit.room.weight_positive fit.room.divides_weight not_small)))
+          | no not_small ↦ absurd (another (ap Some (divisor_is_weight d w fit.room.weight_positive fit.room.divides_weight not_small)))
         ]
 
-module _ (L p : ℕ) (t : Tree) (a : Place) (may : MayOpen L p t) (here : present t ≡ true) (is_chosen : chosen p t ≡ some a) where
+module _ (L p : ℕ) (t : Tree) (a : Place) (may : MayOpen L p t) (here : present t ≡ true) (is_chosen : chosen p t ≡ Some a) where
   fits_place : FitIn p (step a t) (class_at p t a) (at a t)
   unfolding step way at
   fits_place = let fit = chosen_fits p t a may.period_positive (legal_proper t may.legal) is_chosen in rw one-mul at fit
@@ -75,7 +76,7 @@ module _ (L p : ℕ) (t : Tree) (a : Place) (may : MayOpen L p t) (here : presen
   at_opened = rw (here, is_chosen, at_booked L p (class_at p t a) 1 a.level a.offset t, one-mul)
 
   -- the chosen node has a weight before and afterwards
-  pub chosen_weights : (w : ℕ) × (d : ℕ) × (weight_at a t ≡ some w) × (weight_at a (opened L p t) ≡ some d)
+  pub chosen_weights : (w : ℕ) × (d : ℕ) × (weight_at a t ≡ Some w) × (weight_at a (opened L p t) ≡ Some d)
   unfolding weight_at
   chosen_weights = rw at_opened (weights_here L p (step a t) (class_at p t a) (at a t) fits_place)
 
@@ -88,13 +89,13 @@ module _ (L p : ℕ) (t : Tree) (a : Place) (may : MayOpen L p t) (here : presen
 
 -- every node of t stands in u with its weight
 abbrev KeepsWeights : Tree → Tree → Type 0
-KeepsWeights t u = (l r w : ℕ) → weight_of (at_digits l r t) ≡ some w → weight_of (at_digits l r u) ≡ some w
+KeepsWeights t u = (l r w : ℕ) → weight_of (at_digits l r t) ≡ Some w → weight_of (at_digits l r u) ≡ Some w
 
-pub nothing_no_weight : (l r w : ℕ) → weight_of (at_digits l r nothing) ≡ some w → ⊥
+pub nothing_no_weight : (l r w : ℕ) → weight_of (at_digits l r nothing) ≡ Some w → ⊥
 unfolding at_digits weight_of
-nothing_no_weight zero zero w h = none-ne-some w h
-nothing_no_weight zero (suc r) w h = none-ne-some w h
-nothing_no_weight (suc l) r w h = none-ne-some w h
+nothing_no_weight zero zero w h = none-some w h
+nothing_no_weight zero (suc r) w h = none-some w h
+nothing_no_weight (suc l) r w h = none-some w h
 
 absent_keeps_weights : (t u : Tree) → present t ≡ false → KeepsWeights t u
 unfolding present
@@ -138,8 +139,8 @@ booked_keeps_weights L p i (node w f) m (suc l) r fit unsplit =
     (booked_keeps_weights L p i (f e) (m * w) l (r / w) (below_fit L p i m w f l r fit) (rw mul_assoc unsplit))
 
 -- where the chosen node is not split, every node keeps its weight
-pub unsplit_keeps_weights : (L p : ℕ) (t : Tree) (a : Place) → MayOpen L p t → present t ≡ true → chosen p t ≡ some a → is_split p (step a t) (at a t) ≡ false →
-    (b : Place) (w : ℕ) → weight_at b t ≡ some w → weight_at b (opened L p t) ≡ some w
+pub unsplit_keeps_weights : (L p : ℕ) (t : Tree) (a : Place) → MayOpen L p t → present t ≡ true → chosen p t ≡ Some a → is_split p (step a t) (at a t) ≡ false →
+    (b : Place) (w : ℕ) → weight_at b t ≡ Some w → weight_at b (opened L p t) ≡ Some w
 unfolding opened book_into step way at weight_at
 unsplit_keeps_weights L p t a may here is_chosen unsplit b =
     let fit = chosen_fits p t a may.period_positive (legal_proper t may.legal) is_chosen in

@@ -8,7 +8,9 @@ use native.Mathlib.Nat.{mul-one, one-mul, mul-add, mul_assoc, mul_comm, mul-zero
 use mathlib.Core.Path.{◌≡◌, refl, sym, ◌∙◌, ap, ap₂}
 use mathlib.Core.Bool.{Bool, true, false, true≢false}
 use mathlib.Core.List.{List, [], ◌∷◌}
-use mathlib.Core.Option.{Option, none, some, some-ne-none, none-ne-some, map-eq-none_iff, map-eq-some_iff}
+use Rattle.std.specs.Prelude.{Option, None, Some}
+use Rattle.tree.proofs.Options.{some-none, mapped_none, mapped_some}
+use Rattle.std.proofs.lemmas.Option.{none-some}
 use lib.Dec.{eqb}
 use borrow.Author.Tests.{eqb-true, eq-eqb}
 use Rattle.tree.specs.declared.Row.{Row}
@@ -37,26 +39,26 @@ sum_row r rs = rw (sum_from_factor (1 * r.weight) rs) (simp (one-mul, mul-one))
 
 -- A path and where it leads
 
-pub path_of_line : (L n : ℕ) (rs : List Row) → (if eqb n L then some [] else none) ≡ some rs → (n ≡ L) × (rs ≡ [])
+pub path_of_line : (L n : ℕ) (rs : List Row) → (if eqb n L then Some [] else None) ≡ Some rs → (n ≡ L) × (rs ≡ [])
 path_of_line L n rs h = go (eqb n L) refl h
   where
-    go : (b : Bool) → eqb n L ≡ b → (if b then some [] else none) ≡ some rs → (n ≡ L) × (rs ≡ [])
+    go : (b : Bool) → eqb n L ≡ b → (if b then Some [] else None) ≡ Some rs → (n ≡ L) × (rs ≡ [])
     go true e k = (eqb-true n L e, (cc))
-    go false e k = absurd (none-ne-some rs k)
+    go false e k = absurd (none-some rs k)
 
 -- the path of a line through a node: the edge taken there, and the rows below it
 pub record PathBelow (L w : ℕ) (f : ℕ → Tree) (rs : List Row) : Type 0 where
   pub edge : ℕ
   pub rest : List Row
   pub edge_below : edge < w
-  pub path_is : path L (f edge) ≡ some rest
+  pub path_is : path L (f edge) ≡ Some rest
   pub rows_are : rs ≡ row w edge ∷ rest
 
-pub path_below : (L w : ℕ) (f : ℕ → Tree) (rs : List Row) → path L (node w f) ≡ some rs → PathBelow L w f rs
+pub path_below : (L w : ℕ) (f : ℕ → Tree) (rs : List Row) → path L (node w f) ≡ Some rs → PathBelow L w f rs
 unfolding path
 path_below L w f rs h =
     let x = first_some w _ rs h in
-    let below = (map-eq-some_iff (◌∷◌ (row w x.index)) (path L (f x.index))).0 x.offers in
+    let below = mapped_some (◌∷◌ (row w x.index)) (path L (f x.index)) _ x.offers in
     record {
       edge = x.index;
       rest = below.0;
@@ -66,9 +68,9 @@ path_below L w f rs h =
     }
 
 -- a line with this path stands with the product of its weights for a period and equation 6's sum for a start
-pub path_stands : (L : ℕ) (t : Tree) (rs : List Row) → path L t ≡ some rs → Stands L t (product rs) (sum rs)
+pub path_stands : (L : ℕ) (t : Tree) (rs : List Row) → path L t ≡ Some rs → Stands L t (product rs) (sum rs)
 unfolding path Stands product sum sum_from
-path_stands L nothing rs h = absurd (none-ne-some rs h)
+path_stands L nothing rs h = absurd (none-some rs h)
 path_stands L (line n) rs h =
     let at_line = path_of_line L n rs h in
     (at_line.0, ap product at_line.1, ap sum at_line.1)
@@ -91,13 +93,13 @@ open_stands L t h =
     rw x.1 (path_stands L t x.0 x.1)
 
 -- what stands is open: the search for its path finds one
-pub path_found : (L : ℕ) (t : Tree) (q u : ℕ) → Stands L t q u → path L t ≡ none → ⊥
+pub path_found : (L : ℕ) (t : Tree) (q u : ℕ) → Stands L t q u → path L t ≡ None → ⊥
 unfolding path Stands
 path_found L (line n) q u h e =
-    some-ne-none {A = List Row} [] (sym (ap (λ (b : Bool). if b then some [] else none) (eq-eqb n L h.0)) ∙ e)
+    some-none {A = List Row} [] (sym (ap (λ (b : Bool). if b then Some [] else None) (eq-eqb n L h.0)) ∙ e)
 path_found L (node w f) q u h e =
     path_found L (f h.edge) h.period h.start h.stands
-    ((map-eq-none_iff (◌∷◌ (row w h.edge)) (path L (f h.edge))).0 (first_none w _ e h.edge h.edge_below))
+    (mapped_none (◌∷◌ (row w h.edge)) (path L (f h.edge)) (first_none w _ e h.edge h.edge_below))
 path_found L nothing q u h e = h
 
 pub stands_open : (L : ℕ) (t : Tree) (q u : ℕ) → Stands L t q u → is_open L t ≡ true
@@ -105,8 +107,8 @@ unfolding is_open found
 stands_open L t q u h = go (path L t) refl
   where
     go : (o : Option (List Row)) → path L t ≡ o → found (path L t) ≡ true
-    go none e = absurd (path_found L t q u h e)
-    go (some rs) e = ap found e
+    go None e = absurd (path_found L t q u h e)
+    go (Some rs) e = ap found e
 
 -- a line that is open under an edge is open in the node
 pub not_open_below : (L w : ℕ) (f : ℕ → Tree) → Edges w f → is_open L (node w f) ≡ false → (e : ℕ) → is_open L (f e) ≡ true → ⊥

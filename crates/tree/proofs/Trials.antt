@@ -5,7 +5,8 @@ use native.Mathlib.Omega.{arith}
 use mathlib.Core.Path.{◌≡◌, refl, sym, ◌∙◌, ap}
 use mathlib.Core.Logic.{◌↔◌}
 use mathlib.Core.Bool.{Bool, true, false, false≢true}
-use mathlib.Core.Option.{Option, none, some, some-injective}
+use Rattle.std.specs.Prelude.{Option, None, Some}
+use Rattle.std.proofs.lemmas.Option.{same_Some}
 use Rattle.tree.specs.Tree.{Tree, nothing, line, node, present, Place, at, step}
 use Rattle.tree.specs.Shape.{Legal}
 use Rattle.tree.specs.Opening.{best, chosen, opened}
@@ -31,7 +32,7 @@ module _ (L p : ℕ) where
   unfolding split_in chosen best weight_at at
   empty_split = (λ h. absurd (false≢true h), λ x. absurd (nothing_no_weight x.place.level x.place.offset x.weight x.weight_before))
 
-  module _ (t : Tree) (may : MayOpen L p t) (here : present t ≡ true) (a : Place) (is_chosen : chosen p t ≡ some a) where
+  module _ (t : Tree) (may : MayOpen L p t) (here : present t ≡ true) (a : Place) (is_chosen : chosen p t ≡ Some a) where
     -- the chosen node is the one that was split
     split_if_told : is_split p (step a t) (at a t) ≡ true → NodeSplit t (opened L p t)
     split_if_told is =
@@ -42,7 +43,7 @@ module _ (L p : ℕ) where
           new_weight = x.1;
           weight_before = x.2;
           weight_after = x.3;
-          another = λ same. (split_changes_weight L p t a may here is_chosen).0 is (x.3 ∙ ap some same ∙ sym x.2);
+          another = λ same. (split_changes_weight L p t a may here is_chosen).0 is (x.3 ∙ ap Some same ∙ sym x.2);
         }
 
     -- where the chosen node is not split, no node has another weight
@@ -53,7 +54,7 @@ module _ (L p : ℕ) where
         go true e = e
         go false e =
             let kept = unsplit_keeps_weights L p t a may here is_chosen e x.place x.weight x.weight_before in
-            absurd (x.another (some-injective x.new_weight x.weight (sym x.weight_after ∙ kept)))
+            absurd (x.another (same_Some x.new_weight x.weight (sym x.weight_after ∙ kept)))
 
   -- a node is split exactly where the trial says so
   told_split : (t : Tree) → MayOpen L p t → (split_in p t (chosen p t) ≡ true) ↔ NodeSplit t (opened L p t)
@@ -70,7 +71,7 @@ unfolding trial_outcome gives_unless answer answer_unless after tree_unless refu
 open_brings_about L p t legal = go (open_refusal L p t) refl
   where
     go : (o : Option ℕ) → open_refusal L p t ≡ o → BroughtAbout (gives_unless o (trial L p t)) (answer_unless o (reply (open_line L p) t)) t (tree_unless o t (opened L p t))
-    go (some n) e = (refl, refl)
-    go none e =
+    go (Some n) e = (refl, refl)
+    go None e =
         let may = open_may L p t legal e in
         (unfold trial in (refl, omega (arith, opened_at_least_nodes L p t may), told_split L p t may))

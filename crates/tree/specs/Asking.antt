@@ -1,15 +1,15 @@
 -- Asking the plan (document 01, Asking the plan; turns by document 02, Ask 1, and the rest by Ask 4).
 -- Assumes nothing.
 use Rattle.std.specs.Prelude.{ℕ, ◌+◌, ◌*◌, ◌/◌, ◌%◌, ◌<◌, ◌≡◌, Bool, true, false, List, [], ◌∷◌, ◌++◌, eqb, take, replicate, if◌then◌else◌}
-use Rattle.std.proofs.Math.Option.{Option, none, some, get_or}
+use Rattle.std.specs.Prelude.{Option, None, Some, unwrap_or}
 use Rattle.tree.specs.declared.Row.{Row}
 use Rattle.tree.specs.Search.{found, smallest, count_below}
 use Rattle.tree.specs.Tree.{Tree, nothing, line, node, present, row, path_of, period_of, start_of, Place, way}
 
 -- (Asking the plan, 1, 2) Owner: at a node of weight w the round selects edge t mod w, and t div w goes on below it. No line found is idle.
 unfoldable pub owner : ℕ → Tree → Option ℕ
-owner t nothing = none
-owner t (line n) = some n
+owner t nothing = None
+owner t (line n) = Some n
 owner t (node w f) = owner (t / w) (f (t % w))
 
 -- (Asking the plan, 1) The rows of that walk: the weight of each node passed, and the edge selected there.
@@ -41,8 +41,8 @@ shown L t = record { period = period_of L t; start = start_of L t; rows = rows_1
 
 -- the line found is L
 unfoldable pub is_line : ℕ → Option ℕ → Bool
-is_line L none = false
-is_line L (some M) = eqb M L
+is_line L None = false
+is_line L (Some M) = eqb M L
 
 -- (Ask 1, 2) Line L owns round n: it is the line that the walk for the round finds.
 unfoldable pub owns : ℕ → ℕ → Tree → Bool
@@ -60,7 +60,7 @@ owned n t = found (owner n t)
 -- an owner. Rounds are whole numbers, so that none is too large. A plan with a line has such a g below the longest period (`rest_is_rest`, `rest_at_most`).
 -- Of an owned round it is 0, which is answered to nobody.
 unfoldable pub rest : ℕ → Tree → ℕ
-rest n t = if present t then get_or (smallest 4095 (λ g. owned (n + g) t)) 0 else 0
+rest n t = if present t then unwrap_or (smallest 4095 (λ g. owned (n + g) t)) 0 else 0
 
 -- (Ask 4, 2, 3) What the rest g of round n has to be, over every whole number.
 pub record IsRest (n : ℕ) (t : Tree) (g : ℕ) : Type 0 where
@@ -76,8 +76,8 @@ pub data OwnerOrRest : Type 0 where
   idle_for : ℕ → OwnerOrRest
 
 unfoldable pub or_rest : Option ℕ → ℕ → OwnerOrRest
-or_rest (some L) g = owned_by L
-or_rest none g = idle_for g
+or_rest (Some L) g = owned_by L
+or_rest None g = idle_for g
 
 unfoldable pub owner_or_rest : ℕ → Tree → OwnerOrRest
 owner_or_rest n t = or_rest (owner n t) (rest n t)

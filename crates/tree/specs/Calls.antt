@@ -1,7 +1,7 @@
 -- The calls: what each answers, and the tree that an open or a close leaves.
 -- Assumes nothing.
 use Rattle.std.specs.Prelude.{ℕ}
-use Rattle.std.proofs.Math.Option.{Option, none, some}
+use Rattle.std.specs.Prelude.{Option, None, Some}
 use Rattle.tree.specs.Tree.{Tree}
 use Rattle.tree.specs.Opening.{opened, start_given}
 use Rattle.tree.specs.Closing.{closed}
@@ -37,12 +37,12 @@ carried_out (open_line L p) t = opened L p t
 carried_out (close_line L) t = closed L t
 
 unfoldable pub answer_unless : Option ℕ → Answer → Answer
-answer_unless (some n) a = refused n
-answer_unless none a = a
+answer_unless (Some n) a = refused n
+answer_unless None a = a
 
 unfoldable pub tree_unless : Option ℕ → Tree → Tree → Tree
-tree_unless (some n) before after = before
-tree_unless none before after = after
+tree_unless (Some n) before after = before
+tree_unless None before after = after
 
 -- what the call answers
 unfoldable pub answer : Call → Tree → Answer
@@ -60,8 +60,8 @@ pub data Outcome (A : Type 0) : Type 0 where
   refuses : ℕ → Outcome A
 
 unfoldable pub gives_unless : {A : Type 0} → Option ℕ → A → Outcome A
-gives_unless (some n) a = refuses n
-gives_unless none a = gives a
+gives_unless (Some n) a = refuses n
+gives_unless None a = gives a
 
 -- (Asking the plan, 3)
 unfoldable pub show_outcome : ℕ → Tree → Outcome Shown

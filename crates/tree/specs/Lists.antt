@@ -1,7 +1,7 @@
 -- The lists of demand 3: the ledger and the reference tree (document 01, The lists of demand 3).
 -- Assumes nothing.
 use Rattle.std.specs.Prelude.{ℕ, ◌%◌, ◌≡◌, List, [], ◌∷◌, eqb, if◌then◌else◌}
-use Rattle.std.proofs.Math.Option.{Option, none, some}
+use Rattle.std.specs.Prelude.{Option, None, Some}
 use Rattle.tree.specs.Tree.{Tree, nothing}
 use Rattle.tree.specs.Calls.{Call, open_line, close_line, Answer, booked, done, refused, answer, after}
 
@@ -16,18 +16,18 @@ Ledger = ℕ → Option Booking
 
 -- (The lists of demand 3, 8) At first all lines are closed.
 unfoldable pub all_closed : Ledger
-all_closed L = none
+all_closed L = None
 
 unfoldable pub with_line : ℕ → Option Booking → Ledger → Ledger
 with_line L b ledger M = if eqb M L then b else ledger M
 
 -- (The lists of demand 3, 7, 9, 10, 11) One call and its answer entered.
 unfoldable pub enter : Call → Answer → Ledger → Ledger
-enter (open_line L p) (booked s) ledger = with_line L (some (record { period = p; start = s })) ledger
+enter (open_line L p) (booked s) ledger = with_line L (Some (record { period = p; start = s })) ledger
 enter (open_line L p) done ledger = ledger
 enter (open_line L p) (refused n) ledger = ledger
 enter (close_line L) (booked s) ledger = ledger
-enter (close_line L) done ledger = with_line L none ledger
+enter (close_line L) done ledger = with_line L None ledger
 enter (close_line L) (refused n) ledger = ledger
 
 -- one call of a list with what it answered

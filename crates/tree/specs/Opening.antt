@@ -1,7 +1,7 @@
 -- Opening a line (document 01, Opening a line).
 -- Assumes nothing.
 use Rattle.std.specs.Prelude.{ℕ, zero, suc, ◌+◌, ◌*◌, ◌/◌, ◌%◌, ◌≡◌, Bool, true, false, not, ◌&&◌, eqb, ltb, if◌then◌else◌}
-use Rattle.std.proofs.Math.Option.{Option, none, some, map, get_or}
+use Rattle.std.specs.Prelude.{Option, None, Some, option_map, unwrap_or}
 use Rattle.tree.specs.Numbers.{divides, gcd}
 use Rattle.tree.specs.Search.{found, smallest, some_below}
 use Rattle.tree.specs.Tree.{Tree, nothing, line, node, present, Place, at, step}
@@ -18,8 +18,8 @@ free d w f i = not (some_below w (λ e. eqb (e % d) i && present (f e)))
 
 -- (Opening a line, 5) The smallest free class of a node of step m.
 unfoldable pub free_class : ℕ → ℕ → Tree → Option ℕ
-free_class p m nothing = none
-free_class p m (line n) = none
+free_class p m nothing = None
+free_class p m (line n) = None
 free_class p m (node w f) = smallest (divisor p m w) (free (divisor p m w) w f)
 
 -- (Opening a line, 2, 3) A node of step m is a candidate for p: m divides p, and some class is free.
@@ -47,13 +47,13 @@ pub record IsChosen (p : ℕ) (t : Tree) (a : Place) : Type 0 where
   pub none_before : (b : Place) → candidate_at p t b ≡ true → before b a ≡ false
 
 unfoldable pub better : Option Place → Option Place → Option Place
-better none b = b
-better (some a) none = some a
-better (some a) (some b) = if before b a then some b else some a
+better None b = b
+better (Some a) None = Some a
+better (Some a) (Some b) = if before b a then Some b else Some a
 
 -- the best of what the edges below n have to offer
 unfoldable pub best_below : ℕ → (ℕ → Option Place) → Option Place
-best_below zero offer = none
+best_below zero offer = None
 best_below (suc n) offer = better (best_below n offer) (offer n)
 
 -- a place that is counted from edge e of a node of weight w, counted from that node
@@ -62,11 +62,11 @@ under w e a = record { level = suc a.level; offset = e + w * a.offset }
 
 -- the best candidate of a tree whose root has step m
 unfoldable pub best : ℕ → ℕ → Tree → Option Place
-best p m nothing = none
-best p m (line n) = none
+best p m nothing = None
+best p m (line n) = None
 best p m (node w f) =
-    better (if candidate p m (node w f) then some (record { level = 0; offset = 0 }) else none)
-    (best_below w (λ e. map (under w e) (best p (m * w) (f e))))
+    better (if candidate p m (node w f) then Some (record { level = 0; offset = 0 }) else None)
+    (best_below w (λ e. option_map (under w e) (best p (m * w) (f e))))
 
 -- (Opening a line, 4) The chosen candidate, as the search finds it.
 unfoldable pub chosen : ℕ → Tree → Option Place
@@ -110,12 +110,12 @@ book_by_digits L p i m (suc l) r (node w f) =
 
 -- (Opening a line, 5) The class taken in the node at a place.
 unfoldable pub class_at : ℕ → Tree → Place → ℕ
-class_at p t a = get_or (free_class p (step a t) (at a t)) 0
+class_at p t a = unwrap_or (free_class p (step a t) (at a t)) 0
 
 -- the tree with the line booked into the chosen candidate
 unfoldable pub book_into : ℕ → ℕ → Tree → Option Place → Tree
-book_into L p t none = t
-book_into L p t (some a) = book_by_digits L p (class_at p t a) 1 a.level a.offset t
+book_into L p t None = t
+book_into L p t (Some a) = book_by_digits L p (class_at p t a) 1 a.level a.offset t
 
 -- (Opening a line, 1, 6, 7) The opened tree: the empty plan gets a root of weight p with the line under edge 0, any other the booking.
 unfoldable pub opened : ℕ → ℕ → Tree → Tree
@@ -123,8 +123,8 @@ opened L p t = if present t then book_into L p t (chosen p t) else one_edge p (l
 
 -- (Opening a line, 8) The start r + i·m in the chosen candidate. Where there is none the open is refused with 5, and the 0 is answered to nobody.
 unfoldable pub start_in : ℕ → Tree → Option Place → ℕ
-start_in p t none = 0
-start_in p t (some a) = a.offset + class_at p t a * step a t
+start_in p t None = 0
+start_in p t (Some a) = a.offset + class_at p t a * step a t
 
 -- (Opening a line, 1, 8) The start answered: 0 in the empty plan, in any other that of the chosen candidate.
 unfoldable pub start_given : ℕ → Tree → ℕ

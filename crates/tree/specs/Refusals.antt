@@ -1,7 +1,7 @@
 -- The checks of each call, in their sequence (document 01, Who brings a refusal about).
 -- Assumes nothing.
 use Rattle.std.specs.Prelude.{ℕ, Bool, not, ◌&&◌, ◌||◌, List, [], ◌∷◌, ◌++◌, eqb, ltb, if◌then◌else◌}
-use Rattle.std.proofs.Math.Option.{Option, none, some}
+use Rattle.std.specs.Prelude.{Option, None, Some}
 use Rattle.tree.specs.Search.{found}
 use Rattle.tree.specs.Tree.{Tree, present, is_open}
 use Rattle.tree.specs.Opening.{chosen}
@@ -12,8 +12,8 @@ pub data Check : Type 0 where
 
 -- the number of the first check that refuses
 unfoldable pub first_refusal : List Check → Option ℕ
-first_refusal [] = none
-first_refusal (refuse n strikes ∷ checks) = if strikes then some n else first_refusal checks
+first_refusal [] = None
+first_refusal (refuse n strikes ∷ checks) = if strikes then Some n else first_refusal checks
 
 -- (Refusals, 1)
 unfoldable pub line_above_63 : ℕ → Bool

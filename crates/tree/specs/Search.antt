@@ -1,21 +1,21 @@
 -- Searches, lists and sums below a bound, from 0 upward.
 -- Assumes nothing.
 use Rattle.std.specs.Prelude.{ℕ, zero, suc, ◌+◌, Bool, true, false, not, List, [], ◌∷◌, ◌++◌, if◌then◌else◌}
-use Rattle.std.proofs.Math.Option.{Option, none, some}
+use Rattle.std.specs.Prelude.{Option, None, Some}
 
 module _ {A : Type 0} where
   unfoldable pub found : Option A → Bool
-  found none = false
-  found (some a) = true
+  found None = false
+  found (Some a) = true
 
   -- the first where there is one, else the second
   unfoldable pub or_else : Option A → Option A → Option A
-  or_else (some a) o = some a
-  or_else none o = o
+  or_else (Some a) o = Some a
+  or_else None o = o
 
   -- what the smallest number below n has to offer, of those that offer something
   unfoldable pub first : ℕ → (ℕ → Option A) → Option A
-  first zero offer = none
+  first zero offer = None
   first (suc n) offer = or_else (first n offer) (offer n)
 
   -- what each number below n has, in a list
@@ -25,7 +25,7 @@ module _ {A : Type 0} where
 
 -- the smallest number below n that passes the test
 unfoldable pub smallest : ℕ → (ℕ → Bool) → Option ℕ
-smallest n test = first n (λ i. if test i then some i else none)
+smallest n test = first n (λ i. if test i then Some i else None)
 
 -- some number below n passes the test
 unfoldable pub some_below : ℕ → (ℕ → Bool) → Bool

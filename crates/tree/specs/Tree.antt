@@ -1,7 +1,7 @@
 -- The scheduling tree (document 01, The tree), and how a line and a node are found in it.
 -- Assumes nothing.
 use Rattle.std.specs.Prelude.{ℕ, zero, suc, ◌+◌, ◌*◌, ◌/◌, ◌%◌, Bool, true, false, List, [], ◌∷◌, eqb, if◌then◌else◌}
-use Rattle.std.proofs.Math.Option.{Option, none, some, map, get_or}
+use Rattle.std.specs.Prelude.{Option, None, Some, option_map, unwrap_or}
 use Rattle.tree.specs.declared.Row.{Row}
 use Rattle.tree.specs.Search.{found, first, total_below}
 
@@ -38,9 +38,9 @@ sum rs = sum_from 1 rs
 
 -- the path to line L, if it stands in the tree
 unfoldable pub path : ℕ → Tree → Option (List Row)
-path L nothing = none
-path L (line n) = if eqb n L then some [] else none
-path L (node w f) = first w (λ e. map (◌∷◌ (row w e)) (path L (f e)))
+path L nothing = None
+path L (line n) = if eqb n L then Some [] else None
+path L (node w f) = first w (λ e. option_map (◌∷◌ (row w e)) (path L (f e)))
 
 -- (The tree, 14) The open lines of a tree are those that stand in it.
 unfoldable pub is_open : ℕ → Tree → Bool
@@ -48,7 +48,7 @@ is_open L t = found (path L t)
 
 -- the path to a line that stands in the tree
 unfoldable pub path_of : ℕ → Tree → List Row
-path_of L t = get_or (path L t) []
+path_of L t = unwrap_or (path L t) []
 
 -- (The tree, 7) The period of a line.
 unfoldable pub period_of : ℕ → Tree → ℕ

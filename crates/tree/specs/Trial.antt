@@ -1,7 +1,7 @@
 -- A trial: what an open would do, and what is meant by its doing so (document 02, Ask 3).
 -- Assumes nothing.
 use Rattle.std.specs.Prelude.{ℕ, ◌+◌, ◌-◌, ◌≡◌, ◌↔◌, Bool, true, false, ltb}
-use Rattle.std.proofs.Math.Option.{Option, none, some}
+use Rattle.std.specs.Prelude.{Option, None, Some}
 use Rattle.tree.specs.Tree.{Tree, nothing, line, node, Place, at, step, nodes}
 use Rattle.tree.specs.Opening.{divisor, chosen, opened, start_given}
 use Rattle.tree.specs.Refusals.{open_refusal}
@@ -21,8 +21,8 @@ is_split p m (node w f) = ltb (divisor p m w) w
 
 -- the node at the place of the chosen candidate is split; the empty plan has no candidate, and in any other without one the trial is refused with 5
 unfoldable pub split_in : ℕ → Tree → Option Place → Bool
-split_in p t none = false
-split_in p t (some a) = is_split p (step a t) (at a t)
+split_in p t None = false
+split_in p t (Some a) = is_split p (step a t) (at a t)
 
 -- (Ask 3, 2) start: what open answers; added: how many nodes more the opened tree has; split: d is below w in the chosen candidate.
 -- That the opened tree never has fewer nodes is proved (proofs/NodesAdded.antt).
@@ -42,9 +42,9 @@ trial_outcome L p t = gives_unless (open_refusal L p t) (trial L p t)
 
 -- the weight of a node; a line has none
 unfoldable pub weight_of : Tree → Option ℕ
-weight_of nothing = none
-weight_of (line n) = none
-weight_of (node w f) = some w
+weight_of nothing = None
+weight_of (line n) = None
+weight_of (node w f) = Some w
 
 -- that of the node at a place, none where no node stands there
 unfoldable pub weight_at : Place → Tree → Option ℕ
@@ -55,8 +55,8 @@ pub record NodeSplit (before after : Tree) : Type 0 where
   pub place : Place
   pub weight : ℕ
   pub new_weight : ℕ
-  pub weight_before : weight_at place before ≡ some weight
-  pub weight_after : weight_at place after ≡ some new_weight
+  pub weight_before : weight_at place before ≡ Some weight
+  pub weight_after : weight_at place after ≡ Some new_weight
   pub another : new_weight ≡ weight → ⊥
 
 -- (Ask 3, 4) An open that answered a, and led from one tree to another, did what the trial said.

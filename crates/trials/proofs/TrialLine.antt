@@ -5,7 +5,7 @@ use native.Mathlib.Omega.{arith}
 use mathlib.Core.Path.{◌≡◌, sym, ◌∙◌, ap}
 use mathlib.Core.Bool.{false}
 use mathlib.Core.List.{List}
-use mathlib.Core.Option.{none, some}
+use Rattle.std.specs.Prelude.{None, Some}
 use lib.ListN.{length}
 use Rattle.tree.specs.Refusals.{open_refusal}
 use Rattle.tree.specs.Calls.{gives, refuses, gives_unless}
@@ -23,11 +23,11 @@ use Rattle.lines.proofs.OpenLine.{all_closed, found_spot, may_open_at, product_f
 use Rattle.trials.specs.Tryable.{Tryable}
 
 module _ (rows : List ℕ) (L p : ℕ) where
-  pub trial_refused : (n : ℕ) → open_refusal L p (tree_of_rows rows) ≡ some n → refuses n ≡ trial_outcome L p (tree_of_rows rows)
+  pub trial_refused : (n : ℕ) → open_refusal L p (tree_of_rows rows) ≡ Some n → refuses n ≡ trial_outcome L p (tree_of_rows rows)
   unfolding trial_outcome gives_unless
   trial_refused n refused = rw refused
 
-  not_refused_gives : open_refusal L p (tree_of_rows rows) ≡ none → gives (trial L p (tree_of_rows rows)) ≡ trial_outcome L p (tree_of_rows rows)
+  not_refused_gives : open_refusal L p (tree_of_rows rows) ≡ None → gives (trial L p (tree_of_rows rows)) ≡ trial_outcome L p (tree_of_rows rows)
   unfolding trial_outcome gives_unless
   not_refused_gives allowed = rw allowed
 

@@ -6,7 +6,7 @@ use Prim.Native.Nat.{ℕ, ◌+◌, ◌*◌, ◌/◌, ◌%◌, ◌^◌, ◌<◌, 
 use native.Mathlib.Nat.{mod-lt, le_of_lt, mul-pos, mul_comm, mul-le-mul, div-lt_iff_lt-mul, div-div-eq-div-mul}
 use native.Mathlib.Omega.{arith}
 use mathlib.Core.Path.{◌≡◌, sym, ◌∙◌, ap}
-use mathlib.Core.Option.{Option}
+use Rattle.std.specs.Prelude.{Option}
 use Rattle.paths.proofs.PathRows.{within_path}
 use Rattle.paths.specs.Rules.{Family, line_under, walk_on_paths}
 use Rattle.asking.specs.Answers.{line_through}
