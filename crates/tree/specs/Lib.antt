@@ -13,6 +13,7 @@ pub mod Sheet
 pub mod Refusals
 pub mod Calls
 pub mod Trial
+pub mod Answered
 pub mod Lists
 pub mod Demand3
 pub mod Record

@@ -3,6 +3,11 @@
 
 ghost use Rattle.std.specs.Prelude.{◌≡◌, ltb, if◌then◌else◌};
 
+pub mod changed;
+pub mod line;
+mod line_asked;
+pub mod refusal;
+
 // One row of a path: a node's weight, and the edge taken there.
 #[derive(Clone, Copy)]
 pub struct Row {

@@ -1,0 +1,46 @@
+// Why a call is refused.
+ghost use Rattle.std.specs.Prelude.{◌≡◌};
+ghost use Rattle.tree.specs.Answered.{number_of};
+
+use std::error::Error;
+use std::fmt;
+
+// Document 01's refusals, each with the number that it has there.
+#[derive(Clone, Copy, Debug, PartialEq, Eq, Hash)]
+pub enum Refusal {
+    LineAbove63 = 1,
+    PeriodOutOfRange = 2,
+    LineOpen = 3,
+    LineNotOpen = 4,
+    NoRoom = 5,
+    NoOrder = 6,
+    ListLength = 7,
+    AnswersTooShort = 8,
+    WalkerAtEnd = 9,
+}
+
+impl From<Refusal> for u8 {
+    ghost from_gives = { λ refusal number. number ≡ number_of refusal };
+
+    fn from(refusal: Refusal) -> u8 {
+        refusal as u8
+    }
+}
+
+impl fmt::Display for Refusal {
+    fn fmt<W: fmt::Write>(&self, f: &mut fmt::Formatter<W>) -> fmt::Result {
+        f.write_str(match self {
+            Refusal::LineAbove63 => "the line's number is above 63",
+            Refusal::PeriodOutOfRange => "the period is out of range",
+            Refusal::LineOpen => "the line is open",
+            Refusal::LineNotOpen => "the line is not open",
+            Refusal::NoRoom => "no node has room for the period",
+            Refusal::NoOrder => "these are no order",
+            Refusal::ListLength => "the list's length is no multiple of 3, or above 65,535",
+            Refusal::AnswersTooShort => "there are fewer than two answer bytes for each order",
+            Refusal::WalkerAtEnd => "the walker can not go on: one of its numbers is 2^64 - 1",
+        })
+    }
+}
+
+impl Error for Refusal {}
