@@ -2,7 +2,6 @@
 -- Assumes nothing.
 use Rattle.std.specs.Prelude.{if◌then◌else◌}
 use Prim.Native.Nat.{ℕ, ◌<◌}
-use native.Mathlib.Omega.{arith}
 use mathlib.Core.Path.{◌≡◌, refl, sym, ◌∙◌}
 use mathlib.Core.Bool.{Bool, true, false, ◌&&◌, or-true, and-true, and-eq-true_iff, false≢true}
 use mathlib.Core.List.{List, [], ◌∷◌}
@@ -11,7 +10,8 @@ use Rattle.tree.specs.declared.Row.{Row}
 use Rattle.tree.specs.Search.{all_below}
 use Rattle.tree.specs.Tree.{product}
 use Rattle.tree.specs.Record.{path_at, alone, rows_in_range, path_in_range, rest_unused, no_rows, parts, together, legal}
-use Rattle.paths.specs.declared.Checked.TheVariants.{Rows, Fault}
+use Rattle.std.specs.Prelude.{None, Some}
+use Rattle.std.proofs.lemmas.Option.{none-some, same_Some}
 use Rattle.paths.specs.Answers.{path_checked, joins_earlier, line_legal}
 use Rattle.tree.proofs.Searching.{all_below_at, all_below_each}
 use Rattle.paths.proofs.AllBelow.{all_below_and}
@@ -61,19 +61,19 @@ closed_joins rows L h = all_below_each L _ (λ M below. together_closed (path_at
 
 -- One line
 
-faulty : (b : Bool) (n : ℕ) → (if b then Rows n else Fault) ≡ Fault → b ≡ false
-faulty true n h = let z : ◌≡◌ {A = ℕ} 0 1 = cc in absurd (omega arith)
+faulty : (b : Bool) (n : ℕ) → (if b then Some n else None) ≡ None → b ≡ false
+faulty true n h = absurd (none-some n (sym h))
 faulty false n h = refl
 
-right : (b : Bool) (m n : ℕ) → (if b then Rows m else Fault) ≡ Rows n → (b ≡ true) × (n ≡ m)
-right true m n h = (refl, (cc))
-right false m n h = let z : ◌≡◌ {A = ℕ} 0 1 = cc in absurd (omega arith)
+right : (b : Bool) (m n : ℕ) → (if b then Some m else None) ≡ Some n → (b ≡ true) × (n ≡ m)
+right true m n h = (refl, same_Some n m (sym h))
+right false m n h = absurd (none-some n h)
 
-pub path_fault : (rs : List Row) → path_checked rs ≡ Fault → path_in_range rs ≡ false
+pub path_fault : (rs : List Row) → path_checked rs ≡ None → path_in_range rs ≡ false
 unfolding path_checked
 path_fault rs h = faulty (path_in_range rs) (length rs) h
 
-pub path_right : (rs : List Row) (n : ℕ) → path_checked rs ≡ Rows n → (path_in_range rs ≡ true) × (n ≡ length rs)
+pub path_right : (rs : List Row) (n : ℕ) → path_checked rs ≡ Some n → (path_in_range rs ≡ true) × (n ≡ length rs)
 unfolding path_checked
 path_right rs n h = right (path_in_range rs) (length rs) n h
 
@@ -88,11 +88,11 @@ module _ (rows : List ℕ) (L : ℕ) where
   unfolding line_legal
   line_closed h = rw (closed_in_range (path_at rows L) h, closed_joins rows L h, and-true)
 
-  pub line_fault : path_checked (path_at rows L) ≡ Fault → line_legal rows L ≡ false
+  pub line_fault : path_checked (path_at rows L) ≡ None → line_legal rows L ≡ false
   unfolding line_legal
   line_fault h = rw (path_fault _ h)
 
-  module _ (n : ℕ) (checked : path_checked (path_at rows L) ≡ Rows n) where
+  module _ (n : ℕ) (checked : path_checked (path_at rows L) ≡ Some n) where
     pub line_rest_fault : rest_unused rows L ≡ false → line_legal rows L ≡ false
     unfolding line_legal
     line_rest_fault h = rw ((path_right _ _ checked).0, h)

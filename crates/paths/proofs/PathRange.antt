@@ -4,7 +4,7 @@ use Rattle.std.specs.Prelude.{if◌then◌else◌}
 use Prim.Native.Nat.{ℕ, suc, ◌+◌, ◌*◌, ◌<◌, ◌≤◌, zero-le}
 use native.Mathlib.Omega.{arith}
 use native.Mathlib.Nat.{lt_of_lt_of_le, mul-le-mul_left, mul_assoc, mul-one, one-mul, zero-add}
-use mathlib.Core.Path.{◌≡◌, refl, sym, ◌∙◌}
+use mathlib.Core.Path.{◌≡◌, refl, sym, ◌∙◌, ap}
 use mathlib.Core.Logic.{◌⊎◌, inl, inr}
 use mathlib.Core.Bool.{false, ◌&&◌, and-false}
 use mathlib.Core.List.{List, [], ◌∷◌}
@@ -14,14 +14,13 @@ use borrow.Author.Tests.{lt-ltb, le-ltb, le-leb, lt-leb, eq-eqb, ne_eqb}
 use Rattle.tree.specs.declared.Row.{Row}
 use Rattle.tree.specs.Tree.{product}
 use Rattle.tree.specs.Record.{row_at, path_at, rows_in_range, alone, path_in_range}
-use Rattle.paths.specs.declared.Checked.{Checked}
-use Rattle.paths.specs.declared.Checked.TheVariants.{Rows, Fault}
+use Rattle.std.specs.Prelude.{Option, None, Some}
 use Rattle.paths.specs.Answers.{rows_checked, path_checked}
 use Rattle.paths.proofs.PathRest.{zero_or_not, path_rest, path_rest_start, path_rest_row, path_rest_end, path_rest_none, path_rest_product}
 
 -- the answer after k rows whose product is m, where the rows rs are left
-unfoldable pub checked_from : ℕ → ℕ → List Row → Checked
-checked_from m k rs = if rows_in_range rs && leb (m * product rs) 4095 then Rows (k + length rs) else Fault
+unfoldable pub checked_from : ℕ → ℕ → List Row → Option ℕ
+checked_from m k rs = if rows_in_range rs && leb (m * product rs) 4095 then Some (k + length rs) else None
 
 -- the rows passed are in range, their product is m, and what is left decides
 pub record InRange (rows : List ℕ) (L m k : ℕ) : Type 0 where
@@ -38,23 +37,25 @@ in_range_start rows L = record {
 }
 
 -- no rows are left
-checked_end : (m k : ℕ) → m ≤ 4095 → checked_from m k [] ≡ Rows k
+checked_end : (m k : ℕ) → m ≤ 4095 → checked_from m k [] ≡ Some k
 unfolding checked_from rows_in_range product
 checked_end m k small =
     let none : k + 0 ≡ k = omega arith in
     rw (mul-one, le-leb _ _ small, none)
 
 module _ {rows : List ℕ} {L m k : ℕ} (checked : InRange rows L m k) where
-  pub in_range_all : 11 ≤ k → rows_checked (path_at rows L) ≡ Rows k
-  in_range_all past = checked.same ∙ rw (path_rest_none rows L k past) (checked_end m k checked.small)
+  pub in_range_all : 11 ≤ k → rows_checked (path_at rows L) ≡ Some 11
+  in_range_all past =
+      let all : k ≡ 11 = omega arith in
+      checked.same ∙ rw (path_rest_none rows L k past) (checked_end m k checked.small) ∙ ap Some all
 
   -- w was read as the weight of row k
   module _ (below : k < 11) {w : ℕ} (read : w ≡ (row_at rows L k).weight) where
-    pub in_range_end : w ≡ 0 → rows_checked (path_at rows L) ≡ Rows k
+    pub in_range_end : w ≡ 0 → rows_checked (path_at rows L) ≡ Some k
     in_range_end zero_weight = checked.same ∙ rw (path_rest_end rows L k below read zero_weight) (checked_end m k checked.small)
 
     module _ (some_weight : w ≡ 0 → ⊥) where
-      pub weight_too_small : w < 2 → rows_checked (path_at rows L) ≡ Fault
+      pub weight_too_small : w < 2 → rows_checked (path_at rows L) ≡ None
       unfolding checked_from rows_in_range
       weight_too_small h =
           let low : (row_at rows L k).weight < 2 = omega arith in
@@ -65,7 +66,7 @@ module _ {rows : List ℕ} {L m k : ℕ} (checked : InRange rows L m k) where
         weight_fits : 2 ≤ (row_at rows L k).weight
         weight_fits = omega arith
 
-        pub edge_too_large : w ≤ e → rows_checked (path_at rows L) ≡ Fault
+        pub edge_too_large : w ≤ e → rows_checked (path_at rows L) ≡ None
         unfolding checked_from rows_in_range
         edge_too_large h =
             let large : (row_at rows L k).weight ≤ (row_at rows L k).edge = omega arith in
@@ -81,7 +82,7 @@ module _ {rows : List ℕ} {L m k : ℕ} (checked : InRange rows L m k) where
               let count : k + suc (length (path_rest rows L (k + 1))) ≡ k + 1 + length (path_rest rows L (k + 1)) = omega arith in
               rw (path_rest_row rows L k below read some_weight, le-leb _ _ weight_fits, lt-ltb _ _ edge_below, read, mul_assoc, count)
 
-          pub period_too_large : 4095 < m * w → rows_checked (path_at rows L) ≡ Fault
+          pub period_too_large : 4095 < m * w → rows_checked (path_at rows L) ≡ None
           unfolding checked_from
           period_too_large h =
               let rest = mul-le-mul_left (m * w) (path_rest_product rows L (k + 1)) in
@@ -113,7 +114,7 @@ unfolding path_checked path_in_range rows_checked
 not_alone rs h = rw h
 
 -- a first row of weight 1 that is not alone is a fault
-one_not_alone : (r : Row) (rs : List Row) → r.weight ≡ 1 → alone (r ∷ rs) ≡ false → path_checked (r ∷ rs) ≡ Fault
+one_not_alone : (r : Row) (rs : List Row) → r.weight ≡ 1 → alone (r ∷ rs) ≡ false → path_checked (r ∷ rs) ≡ None
 unfolding rows_checked rows_in_range
 one_not_alone r rs one h = not_alone (r ∷ rs) h ∙ rw one
 
@@ -133,14 +134,14 @@ module _ (rows : List ℕ) (L : ℕ) {w : ℕ} (read : w ≡ (row_at rows L 0).w
     weight_one : (row_at rows L 0).weight ≡ 1
     weight_one = sym read ∙ one
 
-    pub root_edge_not_0 : (e ≡ 0 → ⊥) → path_checked (path_at rows L) ≡ Fault
+    pub root_edge_not_0 : (e ≡ 0 → ⊥) → path_checked (path_at rows L) ≡ None
     root_edge_not_0 other = rw root (one_not_alone _ _ weight_one (not_alone_by_edge _ _ (λ z. other (read_edge ∙ z))))
 
     module _ (edge_0 : e ≡ 0) {v : ℕ} (read_second : v ≡ (row_at rows L 1).weight) where
-      pub root_not_alone : (v ≡ 0 → ⊥) → path_checked (path_at rows L) ≡ Fault
+      pub root_not_alone : (v ≡ 0 → ⊥) → path_checked (path_at rows L) ≡ None
       unfolding alone
       root_not_alone more = rw (root, path_rest_row rows L 1 (omega arith) read_second more) (one_not_alone _ _ weight_one refl)
 
-      pub root_alone : v ≡ 0 → path_checked (path_at rows L) ≡ Rows 1
+      pub root_alone : v ≡ 0 → path_checked (path_at rows L) ≡ Some 1
       unfolding path_checked path_in_range alone product
       root_alone none = rw (root, path_rest_end rows L 1 (omega arith) read_second none, eq-eqb _ _ weight_one, eq-eqb _ _ (sym read_edge ∙ edge_0), weight_one)

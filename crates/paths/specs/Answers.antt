@@ -1,27 +1,23 @@
 -- What the lookup of a line and the check of a path answer, by the path (crate tree, specs/Record.antt).
 -- Assumes nothing.
-use Rattle.std.specs.Prelude.{ℕ, Bool, ◌&&◌, List, [], ◌∷◌, leb, length, if◌then◌else◌}
+use Rattle.std.specs.Prelude.{ℕ, Bool, ◌&&◌, List, [], ◌∷◌, Option, None, Some, leb, length, if◌then◌else◌}
 use Rattle.tree.specs.declared.Row.{Row}
 use Rattle.tree.specs.Search.{all_below}
 use Rattle.tree.specs.Tree.{product}
 use Rattle.tree.specs.Record.{path_at, rows_in_range, path_in_range, rest_unused, together}
-use Rattle.paths.specs.declared.Found.{Found}
-use Rattle.paths.specs.declared.Found.TheVariants.{At, Nothing}
-use Rattle.paths.specs.declared.Checked.{Checked}
-use Rattle.paths.specs.declared.Checked.TheVariants.{Rows, Fault}
 
--- (The tree, 14) A line is open where its path has rows: then the lookup finds how many, else nothing.
-unfoldable pub lookup : List Row → Found
-lookup [] = Nothing
-lookup (r ∷ rs) = At (length (r ∷ rs))
+-- (The tree, 14) A line is open where its path has rows: then the lookup finds how many.
+unfoldable pub lookup : List Row → Option ℕ
+lookup [] = None
+lookup (r ∷ rs) = Some (length (r ∷ rs))
 
--- (The tree, 15, 16) The number of rows of a path that is in range, or a fault.
-unfoldable pub path_checked : List Row → Checked
-path_checked rs = if path_in_range rs then Rows (length rs) else Fault
+-- (The tree, 15, 16) The number of rows of a path that is in range.
+unfoldable pub path_checked : List Row → Option ℕ
+path_checked rs = if path_in_range rs then Some (length rs) else None
 
 -- the same of a path that is not that of a line with a root of weight 1 to itself
-unfoldable pub rows_checked : List Row → Checked
-rows_checked rs = if rows_in_range rs && leb (product rs) 4095 then Rows (length rs) else Fault
+unfoldable pub rows_checked : List Row → Option ℕ
+rows_checked rs = if rows_in_range rs && leb (product rs) 4095 then Some (length rs) else None
 
 -- (The tree, 16) Line L goes together with each line of a smaller number.
 unfoldable pub joins_earlier : List ℕ → ℕ → Bool

@@ -7,93 +7,63 @@ ghost use Rattle.tree.specs.Record.{row_at, path_at, rest_unused, no_rows, parts
 ghost use Rattle.paths.specs.Rules.{same_node};
 ghost use Rattle.paths.specs.Answers.{lookup, rows_checked, path_checked, joins_earlier, line_legal};
 
-// What the lookup of a line finds: the number of rows of an open line's path.
-#[derive(Clone, Copy)]
-pub enum Found {
-    At(usize),
-    Nothing,
-}
+use tree::line::Line;
 
-// What the check of a path answers: the number of its rows where it is in range.
-#[derive(Clone, Copy)]
-pub enum Checked {
-    Rows(usize),
-    Fault,
-}
-
-// How many numbers a slice has.
-fn count(numbers: &[u16]) -> usize
-    ensures { result ≡ length numbers.now }
-{
-    numbers.len()
-}
-
-// The record has all its numbers. The call leaves no code: a proof learns from it what the array's type says.
-pub fn whole(rows: &[u16; 1408])
-    ensures { length rows.now ≡ 1408 }
-{
-    count(rows);
-}
+pub mod record;
+pub mod tree_record;
 
 // The weight in row k of a line: of the node passed there, 0 where the row is not used.
-pub fn weight(rows: &[u16; 1408], line: usize, k: usize) -> u16
-    requires { (line < 64) × (k < 11) }
-    ensures { result ≡ (row_at rows.now line k).weight }
+pub fn weight(rows: &[u16; 1408], line: Line, k: usize) -> u16
+    requires { k < 11 }
+    ensures { result ≡ (row_at rows.now line.number k).weight }
 {
-    rows[22 * line + 2 * k]
+    rows[22 * line.number + 2 * k]
 }
 
 // The edge in row k of a line: the one taken at the node of that row.
-pub fn edge(rows: &[u16; 1408], line: usize, k: usize) -> u16
-    requires { (line < 64) × (k < 11) }
-    ensures { result ≡ (row_at rows.now line k).edge }
+pub fn edge(rows: &[u16; 1408], line: Line, k: usize) -> u16
+    requires { k < 11 }
+    ensures { result ≡ (row_at rows.now line.number k).edge }
 {
-    rows[22 * line + 2 * k + 1]
+    rows[22 * line.number + 2 * k + 1]
 }
 
 // The number of rows of a line's path, which is that of the nodes above the line. It is 0 where the line is closed.
-pub fn path_length(rows: &[u16; 1408], line: usize) -> usize
-    requires { line < 64 }
-    ensures { result ≡ length (path_at rows.now line) }
+pub fn path_length(rows: &[u16; 1408], line: Line) -> usize
+    ensures { result ≡ length (path_at rows.now line.number) }
 {
-    let mut count = 0;
-    while count < 11 {
+    for count in 0..11 {
         if weight(rows, line, count) == 0 {
             return count;
         }
-        count += 1;
     }
-    count
+    11
 }
 
 // The lookup of a line: the number of rows of its path where it is open, else nothing (refusal 4).
-pub fn find(rows: &[u16; 1408], line: usize) -> Found
-    requires { line < 64 }
-    ensures { result ≡ lookup (path_at rows.now line) }
+pub fn find(rows: &[u16; 1408], line: Line) -> Option<usize>
+    ensures { result ≡ lookup (path_at rows.now line.number) }
 {
     let count = path_length(rows, line);
     if count == 0 {
-        return Found::Nothing;
+        return None;
     }
-    Found::At(count)
+    Some(count)
 }
 
 // The line is closed: its path has no rows.
-pub fn is_closed(rows: &[u16; 1408], line: usize) -> bool
-    requires { line < 64 }
-    ensures { result ≡ no_rows (path_at rows.now line) }
+pub fn is_closed(rows: &[u16; 1408], line: Line) -> bool
+    ensures { result ≡ no_rows (path_at rows.now line.number) }
 {
     weight(rows, line, 0) == 0
 }
 
 // Two paths part: they go through the same nodes, up to one that they leave by different edges.
 // So neither line stands at the other's place or on its way.
-pub fn parts(rows: &[u16; 1408], a: usize, b: usize) -> bool
-    requires { (a < 64) × (b < 64) }
-    ensures { result ≡ parts (path_at rows.now a) (path_at rows.now b) }
+pub fn parts(rows: &[u16; 1408], a: Line, b: Line) -> bool
+    ensures { result ≡ parts (path_at rows.now a.number) (path_at rows.now b.number) }
 {
-    let mut k = 0;
-    while k < 11 {
+    for k in 0..11 {
         let w = weight(rows, a, k);
         if w == 0 {
             return false;
@@ -104,16 +74,15 @@ pub fn parts(rows: &[u16; 1408], a: usize, b: usize) -> bool
         if edge(rows, a, k) != edge(rows, b, k) {
             return true;
         }
-        k += 1;
     }
     false
 }
 
 // Two paths go through the same node at a level: the same edges so far, and both go on.
 // What most often differs is looked at first: whether the second path comes so far, and at each node the edges.
-pub fn same_node(rows: &[u16; 1408], a: usize, b: usize, level: usize) -> bool
-    requires { (a < 64) × (b < 64) × (level < 11) }
-    ensures { result ≡ same_node level (path_at rows.now a) (path_at rows.now b) }
+pub fn same_node(rows: &[u16; 1408], a: Line, b: Line, level: usize) -> bool
+    requires { level < 11 }
+    ensures { result ≡ same_node level (path_at rows.now a.number) (path_at rows.now b.number) }
 {
     if weight(rows, b, level) == 0 {
         return false;
@@ -121,8 +90,7 @@ pub fn same_node(rows: &[u16; 1408], a: usize, b: usize, level: usize) -> bool
     if weight(rows, a, level) == 0 {
         return false;
     }
-    let mut k = 0;
-    while k < level {
+    for k in 0..level {
         if edge(rows, a, k) != edge(rows, b, k) {
             return false;
         }
@@ -132,15 +100,13 @@ pub fn same_node(rows: &[u16; 1408], a: usize, b: usize, level: usize) -> bool
         if weight(rows, b, k) == 0 {
             return false;
         }
-        k += 1;
     }
     true
 }
 
 // Two lines go together in one tree: one of them is closed, or their paths part.
-pub fn together(rows: &[u16; 1408], a: usize, b: usize) -> bool
-    requires { (a < 64) × (b < 64) }
-    ensures { result ≡ together (path_at rows.now a) (path_at rows.now b) }
+pub fn together(rows: &[u16; 1408], a: Line, b: Line) -> bool
+    ensures { result ≡ together (path_at rows.now a.number) (path_at rows.now b.number) }
 {
     if is_closed(rows, a) {
         return true;
@@ -153,116 +119,103 @@ pub fn together(rows: &[u16; 1408], a: usize, b: usize) -> bool
 
 // A path's rows are in range: each weight at least 2, each edge below its weight, the period at most 4,095.
 // The product is tested at each row, so that it never gets large.
-fn check_rows(rows: &[u16; 1408], line: usize) -> Checked
-    requires { line < 64 }
-    ensures { result ≡ rows_checked (path_at rows.now line) }
+fn check_rows(rows: &[u16; 1408], line: Line) -> Option<usize>
+    ensures { result ≡ rows_checked (path_at rows.now line.number) }
 {
     let mut product: u32 = 1;
-    let mut k = 0;
-    while k < 11 {
+    for k in 0..11 {
         let w = weight(rows, line, k);
         if w == 0 {
-            return Checked::Rows(k);
+            return Some(k);
         }
         if w < 2 {
-            return Checked::Fault;
+            return None;
         }
         if w <= edge(rows, line, k) {
-            return Checked::Fault;
+            return None;
         }
         product = product * (w as u32);
         if 4095 < product {
-            return Checked::Fault;
+            return None;
         }
-        k += 1;
     }
-    Checked::Rows(k)
+    Some(11)
 }
 
 // A path is in range: its rows are, or it is that of a line with a root of weight 1 to itself.
-fn check_path(rows: &[u16; 1408], line: usize) -> Checked
-    requires { line < 64 }
-    ensures { result ≡ path_checked (path_at rows.now line) }
+fn check_path(rows: &[u16; 1408], line: Line) -> Option<usize>
+    ensures { result ≡ path_checked (path_at rows.now line.number) }
 {
     if weight(rows, line, 0) != 1 {
         return check_rows(rows, line);
     }
     if edge(rows, line, 0) != 0 {
-        return Checked::Fault;
+        return None;
     }
     if weight(rows, line, 1) != 0 {
-        return Checked::Fault;
+        return None;
     }
-    Checked::Rows(1)
+    Some(1)
 }
 
 // The sum of a row's two numbers. It is 0 exactly where both are, and one test serves for both.
-fn row_sum(rows: &[u16; 1408], line: usize, k: usize) -> u32
-    requires { (line < 64) × (k < 11) }
-    ensures value { result ≡ (row_at rows.now line k).weight + (row_at rows.now line k).edge }
+fn row_sum(rows: &[u16; 1408], line: Line, k: usize) -> u32
+    requires { k < 11 }
+    ensures value { result ≡ (row_at rows.now line.number k).weight + (row_at rows.now line.number k).edge }
     ensures upper_bound { result ≤ 131070 }
 {
     weight(rows, line, k) as u32 + edge(rows, line, k) as u32
 }
 
 // The rows of a line after its path are 0 and 0. The path has `count` rows.
-fn rest_unused(rows: &[u16; 1408], line: usize, count: usize) -> bool
-    requires { (line < 64) × (count ≡ length (path_at rows.now line)) }
-    ensures { result ≡ rest_unused rows.now line }
+fn rest_unused(rows: &[u16; 1408], line: Line, count: usize) -> bool
+    requires { count ≡ length (path_at rows.now line.number) }
+    ensures { result ≡ rest_unused rows.now line.number }
 {
-    let mut k = count;
-    while k < 11 {
+    for k in count..11 {
         if row_sum(rows, line, k) != 0 {
             return false;
         }
-        k += 1;
     }
     true
 }
 
 // The rows of a closed line are 0 and 0. They are summed up before the one test, so that the loop always has 11 turns
 // and its rows are read several at a time.
-fn closed_unused(rows: &[u16; 1408], line: usize) -> bool
-    requires { (line < 64) × (no_rows (path_at rows.now line) ≡ true) }
-    ensures { result ≡ rest_unused rows.now line }
+fn closed_unused(rows: &[u16; 1408], line: Line) -> bool
+    requires { no_rows (path_at rows.now line.number) ≡ true }
+    ensures { result ≡ rest_unused rows.now line.number }
 {
     let mut sum: u32 = 0;
-    let mut k = 0;
-    while k < 11 {
+    for k in 0..11 {
         sum += row_sum(rows, line, k);
-        k += 1;
     }
     sum == 0
 }
 
 // A line goes together with each line of a smaller number.
-fn joins_earlier(rows: &[u16; 1408], line: usize) -> bool
-    requires { line < 64 }
-    ensures { result ≡ joins_earlier rows.now line }
+fn joins_earlier(rows: &[u16; 1408], line: Line) -> bool
+    ensures { result ≡ joins_earlier rows.now line.number }
 {
     if is_closed(rows, line) {
         return true;
     }
-    let mut earlier = 0;
-    while earlier < line {
-        if !together(rows, earlier, line) {
+    for number in 0..line.number {
+        if !together(rows, Line { number }, line) {
             return false;
         }
-        earlier += 1;
     }
     true
 }
 
 // What the record says of one line is right, by itself and beside the lines of smaller numbers.
-fn line_legal(rows: &[u16; 1408], line: usize) -> bool
-    requires { line < 64 }
-    ensures { result ≡ line_legal rows.now line }
+fn line_legal(rows: &[u16; 1408], line: Line) -> bool
+    ensures { result ≡ line_legal rows.now line.number }
 {
     if is_closed(rows, line) {
         return closed_unused(rows, line);
     }
-    let checked = check_path(rows, line);
-    let Checked::Rows(count) = checked else {
+    let Some(count) = check_path(rows, line) else {
         return false;
     };
     if !rest_unused(rows, line, count) {
@@ -275,12 +228,10 @@ fn line_legal(rows: &[u16; 1408], line: usize) -> bool
 pub fn legal(rows: &[u16; 1408]) -> bool
     ensures { result ≡ legal rows.now }
 {
-    let mut line = 0;
-    while line < 64 {
-        if !line_legal(rows, line) {
+    for number in 0..64 {
+        if !line_legal(rows, Line { number }) {
             return false;
         }
-        line += 1;
     }
     true
 }

@@ -7,7 +7,7 @@ use Rattle.paths.proofs.PathRange.{in_range_start, in_range_all, in_range_end, w
 use Rattle.paths.proofs.check_rows.Goals as goal
 
 pub loop-k-init : goal.loop-k-init
-loop-k-init c = in_range_start c.args.rows.now c.args.line
+loop-k-init c = in_range_start c.args.rows.now c.args.line.number
 
 pub returns-then-w-eq0 : goal.returns-then-w-eq0
 returns-then-w-eq0 c = sym (in_range_end c.loop-k.invariant c.loop-k-test.true c.weight-w.ensures c.if-w-eq0.true)

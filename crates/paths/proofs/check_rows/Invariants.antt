@@ -1,12 +1,8 @@
 -- `paths::check_rows` meets its contract. The invariant: the rows passed are in range, their product is at most 4,095, and what is left decides (`InRange`).
--- The measure is what is left of the 11 rows. A product of at most 4,095 and a weight of 16 bits has a product that fits 32 bits.
+-- A product of at most 4,095 and a weight of 16 bits has a product that fits 32 bits.
 -- Assumes nothing.
-use Prim.Native.Nat.{◌-◌}
 use Rattle.paths.proofs.PathRange.{InRange}
 use Rattle.paths.proofs.check_rows.Given as goal
 
 abbrev pub invariant-loop-k : goal.invariant-loop-k
-invariant-loop-k l = InRange l.rows l.line l.product l.k
-
-abbrev pub decreases-loop-k : goal.decreases-loop-k
-decreases-loop-k l = 11 - l.k
+invariant-loop-k l = InRange l.rows l.line.number l.product l.k

@@ -7,7 +7,7 @@ use Rattle.paths.proofs.UnusedRows.{summed_none, summed_more, summed_all}
 use Rattle.paths.proofs.closed_unused.Goals as goal
 
 pub loop-k-init : goal.loop-k-init
-loop-k-init c = summed_none _ _ (ap length (no_rows_empty (path_at c.args.rows.now c.args.line) c.requires.1))
+loop-k-init c = summed_none _ _ (ap length (no_rows_empty (path_at c.args.rows.now c.args.line.number) c.requires))
 
 pub overflow_add-sum : goal.overflow_add-sum
 overflow_add-sum c = omega (arith, c.loop-k.invariant.bounded, c.row_sum-sum.ensures.upper_bound)

@@ -7,4 +7,4 @@ use Rattle.paths.proofs.PathRest.{no_rows_by_weight}
 use Rattle.paths.proofs.is_closed.Goals as goal
 
 pub returns : goal.returns
-returns c = ap (λ (w : ℕ). eqb w 0) c.weight.ensures ∙ sym (no_rows_by_weight c.args.rows.now c.args.line)
+returns c = ap (λ (w : ℕ). eqb w 0) c.weight.ensures ∙ sym (no_rows_by_weight c.args.rows.now c.args.line.number)

@@ -4,14 +4,14 @@ use Rattle.paths.proofs.AllBelow.{so_far_none, so_far_more, tested_fault, tested
 use Rattle.paths.proofs.LegalLines.{legal_by_lines}
 use Rattle.paths.proofs.legal.Goals as goal
 
-pub loop-line-init : goal.loop-line-init
-loop-line-init c = so_far_none _ _
+pub loop-number-init : goal.loop-number-init
+loop-number-init c = so_far_none _ _
 
 pub returns-then-not-line_legal : goal.returns-then-not-line_legal
-returns-then-not-line_legal c = sym (legal_by_lines _ ∙ tested_fault c.loop-line.invariant (omega arith) (sym c.line_legal.ensures ∙ c.if-not-line_legal.true))
+returns-then-not-line_legal c = sym (legal_by_lines _ ∙ tested_fault c.loop-number.invariant (omega arith) (sym c.line_legal.ensures ∙ c.if-not-line_legal.true))
 
-pub loop-line-preserved : goal.loop-line-preserved
-loop-line-preserved c = so_far_more c.loop-line.invariant (omega arith) (sym c.line_legal.ensures ∙ c.if-not-line_legal.false)
+pub loop-number-preserved : goal.loop-number-preserved
+loop-number-preserved c = so_far_more c.loop-number.invariant (omega arith) (sym c.line_legal.ensures ∙ c.if-not-line_legal.false)
 
 pub returns : goal.returns
-returns c = sym (legal_by_lines _ ∙ tested_all c.loop-line.invariant (omega arith))
+returns c = sym (legal_by_lines _ ∙ tested_all c.loop-number.invariant (omega arith))

@@ -1,24 +1,23 @@
 -- `paths::line_legal` meets its contract: the one check of a closed line, or the three checks of an open one, one after the other.
 -- Assumes nothing.
 use mathlib.Core.Path.{sym, ◌∙◌}
-use borrow.Author.Rules.{rules}
 use Rattle.paths.proofs.LegalLines.{path_right, line_closed, line_fault, line_rest_fault, line_by_earlier}
 use Rattle.paths.proofs.line_legal.Goals as goal
 
 pub closed_unused-requires : goal.closed_unused-requires
-closed_unused-requires c = (search rules, sym c.is_closed.ensures ∙ c.if-is_closed.true)
+closed_unused-requires c = sym c.is_closed.ensures ∙ c.if-is_closed.true
 
 pub returns-then-is_closed : goal.returns-then-is_closed
 returns-then-is_closed c = c.closed_unused.ensures ∙ sym (line_closed _ _ (sym c.is_closed.ensures ∙ c.if-is_closed.true))
 
 pub returns-in_default : goal.returns-in_default
-returns-in_default c = sym (line_fault _ _ (sym c.check_path-checked.ensures ∙ c.in_default.is))
+returns-in_default c = sym (line_fault _ _ (sym c.check_path.ensures ∙ c.in_default.is))
 
 pub rest_unused-requires : goal.rest_unused-requires
-rest_unused-requires c = (search rules, (path_right _ _ (sym c.check_path-checked.ensures ∙ c.in-Rows.is)).1)
+rest_unused-requires c = (path_right _ _ (sym c.check_path.ensures ∙ c.in-Some.is)).1
 
 pub returns-then-not-rest_unused : goal.returns-then-not-rest_unused
-returns-then-not-rest_unused c = sym (line_rest_fault _ _ _ (sym c.check_path-checked.ensures ∙ c.in-Rows.is) (sym c.rest_unused.ensures ∙ c.if-not-rest_unused.true))
+returns-then-not-rest_unused c = sym (line_rest_fault _ _ _ (sym c.check_path.ensures ∙ c.in-Some.is) (sym c.rest_unused.ensures ∙ c.if-not-rest_unused.true))
 
 pub returns : goal.returns
-returns c = c.joins_earlier.ensures ∙ sym (line_by_earlier _ _ _ (sym c.check_path-checked.ensures ∙ c.in-Rows.is) (sym c.rest_unused.ensures ∙ c.if-not-rest_unused.false))
+returns c = c.joins_earlier.ensures ∙ sym (line_by_earlier _ _ _ (sym c.check_path.ensures ∙ c.in-Some.is) (sym c.rest_unused.ensures ∙ c.if-not-rest_unused.false))

@@ -3,7 +3,7 @@ use Rattle.paths.proofs.PathsPart.{alike_start, both_ended, first_ended, other_n
 use Rattle.paths.proofs.parts.Goals as goal
 
 pub loop-k-init : goal.loop-k-init
-loop-k-init c = alike_start c.args.rows.now c.args.a c.args.b
+loop-k-init c = alike_start c.args.rows.now c.args.a.number c.args.b.number
 
 pub returns-then-w-eq0 : goal.returns-then-w-eq0
 returns-then-w-eq0 c = sym (first_ended c.loop-k.invariant c.loop-k-test.true c.weight-w.ensures c.if-w-eq0.true)

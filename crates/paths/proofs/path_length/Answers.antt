@@ -3,7 +3,7 @@ use Rattle.paths.proofs.PathLength.{passed_none, passed_row, passed_path, passed
 use Rattle.paths.proofs.path_length.Goals as goal
 
 pub loop-count-init : goal.loop-count-init
-loop-count-init c = passed_none c.args.rows.now c.args.line
+loop-count-init c = passed_none c.args.rows.now c.args.line.number
 
 pub returns-then-weight-eq0 : goal.returns-then-weight-eq0
 returns-then-weight-eq0 c = passed_path c.loop-count.invariant (omega arith) c.weight.ensures c.if-weight-eq0.true

@@ -3,7 +3,7 @@ use Rattle.paths.proofs.UnusedRows.{unused_start, unused_all, row_used, unused_m
 use Rattle.paths.proofs.rest_unused.Goals as goal
 
 pub loop-k-init : goal.loop-k-init
-loop-k-init c = unused_start c.args.rows.now c.args.line c.requires.1
+loop-k-init c = unused_start c.args.rows.now c.args.line.number c.requires
 
 pub returns-then-row_sum-ne0 : goal.returns-then-row_sum-ne0
 returns-then-row_sum-ne0 c = sym (row_used c.loop-k.invariant c.loop-k-test.true c.row_sum.ensures.value c.if-row_sum-ne0.true)
