@@ -7,6 +7,7 @@ ghost use Rattle.tree.specs.Record.{row_at, path_at, rest_unused, no_rows, parts
 ghost use Rattle.paths.specs.Rules.{same_node};
 ghost use Rattle.paths.specs.Answers.{lookup, rows_checked, path_checked, joins_earlier, line_legal};
 
+use tree::Row;
 use tree::line::Line;
 
 pub mod record;
@@ -26,6 +27,17 @@ pub fn edge(rows: &[u16; 1408], line: Line, k: usize) -> u16
     ensures { result ≡ (row_at rows.now line.number k).edge }
 {
     rows[22 * line.number + 2 * k + 1]
+}
+
+// Row k of a line: the weight and the edge there.
+pub fn row(rows: &[u16; 1408], line: Line, k: usize) -> Row
+    requires { k < 11 }
+    ensures { result ≡ row_at rows.now line.number k }
+{
+    Row {
+        weight: weight(rows, line, k),
+        edge: edge(rows, line, k),
+    }
 }
 
 // The number of rows of a line's path, which is that of the nodes above the line. It is 0 where the line is closed.
