@@ -16,22 +16,18 @@ pub record RowLeft (rows : List ℕ) (L : ℕ) : Type 0 where
 
 -- there is a node at level l of line L's path, and it can be split by d on this path
 pub record SplittableOnLine (rows : List ℕ) (L l d : ℕ) : Type 0 where
-  pub line_below_64 : L < 64
   pub divisor_above_0 : 0 < d
   pub on_path : l < length (path_at rows L)
   pub row_left : RowLeft rows L
 
 -- and on the path of each line that goes through it
 pub record Splittable (rows : List ℕ) (L l d : ℕ) : Type 0 where
-  pub line_below_64 : L < 64
   pub divisor_above_0 : 0 < d
   pub on_path : l < length (path_at rows L)
   pub row_left : (M : ℕ) → M < 64 → same_node l (path_at rows L) (path_at rows M) ≡ true → RowLeft rows M
 
 -- there is a way down to level l of line M's path, and it leaves rows enough for line L to be booked below it
 pub record Placeable (rows : List ℕ) (L M l d i q : ℕ) : Type 0 where
-  pub line_below_64 : L < 64
-  pub from_below_64 : M < 64
   pub another_line : M ≡ L → ⊥
   pub on_path : l ≤ length (path_at rows M)
   pub rows_left : length (booked_path (take l (path_at rows M)) d i q) ≤ 11

@@ -1,11 +1,8 @@
-use Rattle.booking.proofs.ClearLine.{cleared_none, cleared_more, cleared_all}
+-- `booking::clear_line` meets its contract: the line's 22 numbers are filled with 0.
+-- Assumes nothing.
+use native.Mathlib.Omega.{arith}
+use Rattle.booking.proofs.ClearLine.{cleared_line}
 use Rattle.booking.proofs.clear_line.Goals as goal
 
-pub loop-k-init : goal.loop-k-init
-loop-k-init c = cleared_none _ _ c.requires c.whole.ensures
-
-pub loop-k-preserved : goal.loop-k-preserved
-loop-k-preserved c = cleared_more c.loop-k.invariant c.loop-k-test.true c.put_row.ensures
-
 pub returns : goal.returns
-returns c = cleared_all c.loop-k.invariant c.loop-k-test.false
+returns c = cleared_line _ _ _ _ c.args.line.below_64 c.told-rows (omega arith) (c.fill.ensures.after (λ y same. same))

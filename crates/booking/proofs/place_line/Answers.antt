@@ -1,49 +1,35 @@
+-- `booking::place_line` meets its contract: the way to the level is copied to the cleared line, and a row or two are added.
+-- Assumes nothing.
 use native.Mathlib.Omega.{arith}
-use Rattle.booking.proofs.PlacedPath.{level_fits, next_level_fits, copied_none, copied_fits, copied_more, placed_without, placed_with, placed_in_start}
+use Rattle.booking.proofs.PlacedPath.{level_fits, next_level_fits, placed_without, placed_with}
 use Rattle.booking.proofs.place_line.Goals as goal
 
-pub loop-k-init : goal.loop-k-init
-loop-k-init c = copied_none c.whole.ensures c.requires c.clear_line.ensures
+pub overflow_mul-level : goal.overflow_mul-level
+overflow_mul-level c = omega (arith, level_fits c.requires)
 
-pub weight-w-requires : goal.weight-w-requires
-weight-w-requires c =
-    let inv = c.loop-k.invariant in
-    (inv.placeable.from_below_64, copied_fits inv c.loop-k-test.true)
+pub overflow_add-start : goal.overflow_add-start
+overflow_add-start c = omega (arith, level_fits c.requires)
 
-pub edge-e-requires : goal.edge-e-requires
-edge-e-requires c =
-    let inv = c.loop-k.invariant in
-    (inv.placeable.from_below_64, copied_fits inv c.loop-k-test.true)
+pub copy_within-requires-clause-in_bounds : goal.copy_within-requires-clause-in_bounds
+copy_within-requires-clause-in_bounds c = omega (arith, level_fits c.requires)
+
+pub copy_within-requires-clause-dest_in_bounds : goal.copy_within-requires-clause-dest_in_bounds
+copy_within-requires-clause-dest_in_bounds c = omega (arith, level_fits c.requires)
 
 pub put_row-requires : goal.put_row-requires
-put_row-requires c =
-    let inv = c.loop-k.invariant in
-    (inv.placeable.line_below_64, copied_fits inv c.loop-k-test.true)
-
-pub loop-k-preserved : goal.loop-k-preserved
-loop-k-preserved c = copied_more c.loop-k.invariant c.loop-k-test.true c.weight-w.ensures c.edge-e.ensures c.put_row.ensures
-
-pub put_row-requires-2 : goal.put_row-requires-2
-put_row-requires-2 c =
-    let inv = c.loop-k.invariant in
-    (inv.placeable.line_below_64, level_fits inv.placeable)
-
-pub overflow_add-level : goal.overflow_add-level
-overflow_add-level c =
-    let inv = c.loop-k.invariant in
-    omega (arith, level_fits inv.placeable)
+put_row-requires c = level_fits c.requires
 
 pub put_row-requires-then-q-ne1 : goal.put_row-requires-then-q-ne1
-put_row-requires-then-q-ne1 c =
-    let inv = c.loop-k.invariant in
-    (inv.placeable.line_below_64, next_level_fits inv.placeable c.if-q-ne1.true)
+put_row-requires-then-q-ne1 c = next_level_fits c.requires c.if-q-ne1.true
 
 pub returns-then-q-ne1 : goal.returns-then-q-ne1
 returns-then-q-ne1 c =
-    let placed = placed_with c.loop-k.invariant c.loop-k-test.false c.put_row-2.ensures c.if-q-ne1.true c.put_row-then-q-ne1.ensures in
-    placed_in_start c.whole.ensures c.requires c.clear_line.ensures placed
+    let copy = c.copy_within.ensures.by_index in
+    rw (c.put_row-then-q-ne1.ensures, c.put_row.ensures)
+    (placed_with c.requires c.told-rows c.args.line.below_64 c.clear_line.ensures record { there = copy.0; before = copy.1; after = copy.2 } (omega arith) c.if-q-ne1.true)
 
 pub returns-else-q-ne1 : goal.returns-else-q-ne1
 returns-else-q-ne1 c =
-    let placed = placed_without c.loop-k.invariant c.loop-k-test.false c.put_row-2.ensures c.if-q-ne1.false in
-    placed_in_start c.whole.ensures c.requires c.clear_line.ensures placed
+    let copy = c.copy_within.ensures.by_index in
+    rw (c.put_row.ensures)
+    (placed_without c.requires c.told-rows c.args.line.below_64 c.clear_line.ensures record { there = copy.0; before = copy.1; after = copy.2 } (omega arith) c.if-q-ne1.false)

@@ -1,28 +1,29 @@
+use native.Mathlib.Omega.{arith}
+use mathlib.Core.Path.{◌≡◌, refl, ◌∙◌}
+use Rattle.paths.specs.Rules.{split_lines}
 use Rattle.paths.proofs.PathRows.{within_path}
-use Rattle.booking.proofs.SplitNode.{split_below_none, split_below_other, split_below_more, split_below_all, through_splittable}
+use Rattle.booking.proofs.SplitNode.{line_passed, through_splittable, line_split}
 use Rattle.booking.proofs.split_node.Goals as goal
 use Rattle.booking.proofs.split_node.Goals.{then-same_node, else-same_node}
 
-pub loop-other-init : goal.loop-other-init
-loop-other-init c = split_below_none c.whole.ensures c.requires
+pub loop-number-init : goal.loop-number-init
+unfolding split_lines
+loop-number-init c = refl
 
 pub same_node-requires : goal.same_node-requires
-same_node-requires c =
-    let pre = c.requires in
-    (pre.line_below_64, c.loop-other-test.true, within_path _ _ pre.on_path)
+same_node-requires c = within_path _ _ c.requires.on_path
 
 pub split_line-requires : goal.split_line-requires
-split_line-requires c = through_splittable c.loop-other.invariant c.loop-other-test.true c.same_node.ensures c.if-same_node.true
+split_line-requires c = through_splittable c.told-rows c.requires c.loop-number-test.true c.loop-number.invariant c.same_node.ensures c.if-same_node.true
 
-pub loop-other-preserved : goal.loop-other-preserved
-loop-other-preserved c =
-    let inv = c.loop-other.invariant in
-    let below = c.loop-other-test.true in
-    let read = c.same_node.ensures in
+pub loop-number-preserved : goal.loop-number-preserved
+loop-number-preserved c =
     elim c.if-same_node.branch [
-      | then-same_node w ↦ rw w.rows-is (split_below_more inv below read w.if-same_node.true w.split_line.ensures)
-      | else-same_node w ↦ rw w.rows-is (split_below_other inv below read w.if-same_node.false)
+      | then-same_node w ↦ w.rows-is ∙ line_split c.told-rows c.requires c.loop-number-test.true c.loop-number.invariant c.same_node.ensures w.if-same_node.true w.split_line.ensures
+      | else-same_node w ↦ w.rows-is ∙ line_passed c.told-rows c.requires c.loop-number-test.true c.loop-number.invariant c.same_node.ensures w.if-same_node.false
     ]
 
 pub returns : goal.returns
-returns c = split_below_all c.loop-other.invariant c.loop-other-test.false
+returns c =
+    let all : c.loop-number.number ≡ 64 = omega arith in
+    rw all at c.loop-number.invariant

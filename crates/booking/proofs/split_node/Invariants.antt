@@ -1,11 +1,9 @@
--- `booking::split_node` meets its contract. The invariant: the lines passed are split where they go through the node (`SplitBelow`). The measure is how many of the 64 lines are left.
+-- `booking::split_node` meets its contract. The invariant: the lines passed are split where they go through the node.
 -- Assumes nothing.
-use Prim.Native.Nat.{◌-◌}
-use Rattle.booking.proofs.SplitNode.{SplitBelow}
+use mathlib.Core.Path.{◌≡◌}
+use Rattle.tree.specs.Record.{path_at}
+use Rattle.paths.specs.Rules.{split_lines}
 use Rattle.booking.proofs.split_node.Given as goal
 
-abbrev pub invariant-loop-other : goal.invariant-loop-other
-invariant-loop-other l = SplitBelow l.initial.rows l.rows l.line l.level l.d l.other
-
-abbrev pub decreases-loop-other : goal.decreases-loop-other
-decreases-loop-other l = 64 - l.other
+abbrev pub invariant-loop-number : goal.invariant-loop-number
+invariant-loop-number l = l.rows ≡ split_lines l.initial.rows (path_at l.initial.rows l.line.number) l.level l.d l.number
