@@ -3,10 +3,8 @@
 use Rattle.std.specs.Prelude.{ℕ, Bool, not, ◌&&◌, [], ◌∷◌, eqb, ltb}
 use Rattle.std.specs.Prelude.{Option}
 use Rattle.tree.specs.Refusals.{refuse, first_refusal, line_above_63}
-use Rattle.tree.specs.Calls.{Outcome, gives, refuses, gives_unless}
+use Rattle.tree.specs.Calls.{Outcome, gives_unless}
 use Rattle.orders.specs.declared.Bytes.{Bytes}
-use Rattle.orders.specs.declared.Packed.{Packed}
-use Rattle.orders.specs.declared.Packed.TheVariants.{Order, Refused}
 use Rattle.orders.specs.Order.{bytes_of, order_with}
 
 -- (Refusals, 6) kind above 1
@@ -30,8 +28,3 @@ packing_refusal k L p =
 -- (Orders, 3) What packing a kind, a line and a period gives: three bytes, or a refusal.
 unfoldable pub packing : ℕ → ℕ → ℕ → Outcome Bytes
 packing k L p = gives_unless (packing_refusal k L p) (bytes_of (order_with k L p))
-
--- what the code's answer says in these terms
-unfoldable pub packed_as : Packed → Outcome Bytes
-packed_as (Order b) = gives b
-packed_as (Refused n) = refuses n

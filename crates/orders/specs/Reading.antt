@@ -3,9 +3,9 @@
 use Rattle.std.specs.Prelude.{ℕ, zero, suc, Bool, not, ◌⊎◌, ◌≡◌, [], ◌∷◌, eqb}
 use Rattle.std.specs.Prelude.{Option}
 use Rattle.tree.specs.Refusals.{refuse, first_refusal}
-use Rattle.tree.specs.Calls.{Call, open_line, close_line, Outcome, gives, refuses, gives_unless}
-use Rattle.orders.specs.declared.Reading.{Reading}
-use Rattle.orders.specs.declared.Reading.TheVariants.{Open, Close, Refused}
+use Rattle.tree.specs.Calls.{Call, open_line, close_line, Outcome, gives_unless}
+use Rattle.orders.specs.declared.Order.{Order}
+use Rattle.orders.specs.declared.Order.TheVariants.{Open, Close}
 use Rattle.orders.specs.Order.{kind, line, period, filler}
 use Rattle.orders.specs.Packing.{kind_above_1, close_with_period}
 
@@ -45,8 +45,7 @@ reading n = gives_unless (reading_refusal n) (call_of (kind n) (line n) (period 
 unfoldable pub Readable : ℕ → Type 0
 Readable n = (filler n ≡ 0) × ((kind n ≡ 0) ⊎ ((kind n ≡ 1) × (period n ≡ 0)))
 
--- what the code's answer says in these terms
-unfoldable pub read_as : Reading → Outcome Call
-read_as (Open L p) = gives (open_line L p.0)
-read_as (Close L) = gives (close_line L)
-read_as (Refused n) = refuses n
+-- the call that the code's order stands for
+unfoldable pub call_told : Order → Call
+call_told (Open L p) = open_line L p.0
+call_told (Close L) = close_line L

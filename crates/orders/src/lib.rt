@@ -2,33 +2,44 @@
 // An order is a word of 24 bits: kind 2, line 6, period 12 and filler 4 bits, most significant bit first.
 #![tactic(auto)]
 
-ghost use Rattle.std.specs.Prelude.{◌≡◌, ◌<◌, ◌^◌};
+ghost use Rattle.std.specs.Prelude.{◌≡◌, ◌<◌, ◌^◌, [], ◌∷◌};
+ghost use Rattle.tree.specs.Answered.{outcome_of};
 ghost use Rattle.orders.specs.Field.{field, joined};
 ghost use Rattle.orders.specs.Order.{order_of, order_with, bytes_of, fields_of};
-ghost use Rattle.orders.specs.Packing.{packing, packed_as};
-ghost use Rattle.orders.specs.Reading.{reading, read_as};
+ghost use Rattle.orders.specs.Packing.{packing};
+ghost use Rattle.orders.specs.Reading.{reading, call_told};
 
 use tree::Period;
+use tree::refusal::Refusal;
 
 pub mod round_trip;
 
 // Three bytes, the first one highest.
-#[derive(Clone, Copy)]
+#[derive(Clone, Copy, Debug, PartialEq, Eq)]
 pub struct Bytes(pub u8, pub u8, pub u8);
 
-// What packing answers.
-#[derive(Clone, Copy)]
-pub enum Packed {
-    Order(Bytes),
-    Refused(u8),
+// The same three bytes as an array.
+impl From<[u8; 3]> for Bytes {
+    ghost from_gives = { λ array bytes. array ≡ bytes.0 ∷ bytes.1 ∷ bytes.2 ∷ [] };
+
+    fn from(array: [u8; 3]) -> Bytes {
+        Bytes(array[0], array[1], array[2])
+    }
 }
 
-// What reading answers: the line and the period to open, the line to close, or a refusal.
+impl From<Bytes> for [u8; 3] {
+    ghost from_gives = { λ bytes array. array ≡ bytes.0 ∷ bytes.1 ∷ bytes.2 ∷ [] };
+
+    fn from(bytes: Bytes) -> [u8; 3] {
+        [bytes.0, bytes.1, bytes.2]
+    }
+}
+
+// What can be read: the line and the period to open, or the line to close.
 #[derive(Clone, Copy)]
-pub enum Reading {
+pub enum Order {
     Open(u64, Period),
     Close(u64),
-    Refused(u8),
 }
 
 // The fields of an order as its bits say.
@@ -41,6 +52,7 @@ pub struct OrderFields {
 }
 
 // The field of a word that is so many bits wide and has its lowest bit at a place.
+// What a width and a place may be is asked here and of `join` alone, so no type says it.
 fn field_of(word: u64, width: u64, place: u64) -> u64
     requires { (width < 64) × (place < 64) }
     ensures { result ≡ field width place word }
@@ -100,45 +112,50 @@ pub fn fields(bytes: Bytes) -> OrderFields
 }
 
 // Reading three bytes. Refused with 6: a kind above 1, a set bit in the filler, a close whose period is not 0.
-pub fn read(bytes: Bytes) -> Reading
-    ensures { read_as result ≡ reading (order_of bytes) }
+pub fn read(bytes: Bytes) -> Result<Order, Refusal>
+    ensures { outcome_of call_told result ≡ reading (order_of bytes) }
 {
-    let found = fields(bytes);
-    let kind = found.kind;
-    let period = found.period;
-    if found.filler != 0 {
-        return Reading::Refused(6);
+    let OrderFields {
+        kind,
+        line,
+        period,
+        filler,
+    } = fields(bytes);
+    if filler != 0 {
+        return Err(Refusal::NoOrder);
     }
+    // The kind field is matched as a number, with a range that is refused: document 01 names this form.
     match kind {
-        0 => Reading::Open(found.line, period),
+        0 => Ok(Order::Open(line, period)),
         1 => {
             if period.0 != 0 {
-                return Reading::Refused(6);
+                return Err(Refusal::NoOrder);
             }
-            Reading::Close(found.line)
+            Ok(Order::Close(line))
         }
-        2..=u64::MAX => Reading::Refused(6),
+        2..=u64::MAX => Err(Refusal::NoOrder),
     }
 }
 
 // Packing an order. Refused, in this sequence: 6 for a kind above 1, 1 for a line above 63, 2 for a period above 4,095,
 // 6 for a close whose period is not 0.
-pub fn pack(kind: u64, line: u64, period: Period) -> Packed
-    ensures { packed_as result ≡ packing kind line period.0 }
+pub fn pack(kind: u64, line: u64, period: Period) -> Result<Bytes, Refusal>
+    ensures { outcome_of (λ b. b) result ≡ packing kind line period.0 }
 {
     let rounds = period.0 as u64;
+    // As in reading, the form that document 01 names.
     match kind {
         0 | 1 => {}
-        2..=u64::MAX => return Packed::Refused(6),
+        2..=u64::MAX => return Err(Refusal::NoOrder),
     }
     if 63 < line {
-        return Packed::Refused(1);
+        return Err(Refusal::LineAbove63);
     }
     if 4095 < rounds {
-        return Packed::Refused(2);
+        return Err(Refusal::PeriodOutOfRange);
     }
     if kind == 1 && rounds != 0 {
-        return Packed::Refused(6);
+        return Err(Refusal::NoOrder);
     }
-    Packed::Order(split(word_with(kind, line, rounds)))
+    Ok(split(word_with(kind, line, rounds)))
 }
