@@ -85,9 +85,8 @@ impl Counts {
             }
             Err(refusal) => self.add_refusal(refusal),
         }
-        if packed_then_read(kind, line, period).is_ok_and(|order| is_of(
-            order, kind, line, period,
-        )) {
+        let is_same = |order| is_of(order, kind, line, period);
+        if packed_then_read(kind, line, period).is_ok_and(is_same) {
             add_one(&mut self.same);
         }
     }
