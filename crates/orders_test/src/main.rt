@@ -69,7 +69,7 @@ impl Counts {
                 add_one(&mut self.close);
                 self.add_to_digest(line);
             }
-            Err(refusal) => self.add_refusal(refusal),
+            Err(refusal) => return self.add_refusal(refusal),
         }
         if read_then_packed(bytes) == Ok(bytes) {
             add_one(&mut self.same);
@@ -78,13 +78,12 @@ impl Counts {
 
     // A kind, a line and a period packed, and read back.
     fn add_packed(&mut self, kind: u64, line: u64, period: Period) {
-        match orders::pack(kind, line, period) {
-            Ok(bytes) => {
-                add_one(&mut self.packed);
-                self.add_to_digest(u32::from_be_bytes([0, bytes.0, bytes.1, bytes.2]) as u64);
-            }
-            Err(refusal) => self.add_refusal(refusal),
-        }
+        let bytes = match orders::pack(kind, line, period) {
+            Ok(bytes) => bytes,
+            Err(refusal) => return self.add_refusal(refusal),
+        };
+        add_one(&mut self.packed);
+        self.add_to_digest(u32::from_be_bytes([0, bytes.0, bytes.1, bytes.2]) as u64);
         let is_same = |order| is_of(order, kind, line, period);
         if packed_then_read(kind, line, period).is_ok_and(is_same) {
             add_one(&mut self.same);
