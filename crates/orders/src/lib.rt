@@ -36,14 +36,14 @@ impl From<Bytes> for [u8; 3] {
 }
 
 // What can be read: the line and the period to open, or the line to close.
-#[derive(Clone, Copy)]
+#[derive(Clone, Copy, Debug, PartialEq, Eq)]
 pub enum Order {
     Open(u64, Period),
     Close(u64),
 }
 
 // The fields of an order as its bits say.
-#[derive(Clone, Copy)]
+#[derive(Clone, Copy, Debug, PartialEq, Eq)]
 pub struct OrderFields {
     pub kind: u64,
     pub line: u64,

@@ -16,11 +16,11 @@ pub struct Row {
 }
 
 // A period in rounds. A type of its own, so that it is never taken for a start.
-#[derive(Clone, Copy)]
+#[derive(Clone, Copy, Debug, PartialEq, Eq)]
 pub struct Period(pub u16);
 
 // A start in rounds.
-#[derive(Clone, Copy)]
+#[derive(Clone, Copy, Debug, PartialEq, Eq)]
 pub struct Start(pub u16);
 
 // A plan of rounds: for each of the 64 lines its path, 11 rows of weight and edge.
