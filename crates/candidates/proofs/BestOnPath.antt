@@ -7,14 +7,13 @@ use native.Mathlib.Numerals.{add-one}
 use mathlib.Core.Path.{◌≡◌, refl, sym, ◌∙◌}
 use mathlib.Core.Bool.{true}
 use mathlib.Core.List.{List}
-use Rattle.std.specs.Prelude.{Option}
+use Rattle.std.specs.Prelude.{Option, None}
 use lib.ListN.{length}
 use Rattle.tree.specs.Record.{row_at, path_at, no_rows, legal}
 use Rattle.paths.specs.Rules.{Spot, spot_at, better_spot, best_on_path, best_of_lines}
 use Rattle.paths.proofs.PathNumbers.{Carried, carried_start, carried_row, carried_below, carried_small}
 use Rattle.paths.proofs.RowLaws.{no_rows_empty}
-use Rattle.candidates.specs.declared.Chosen.{Chosen}
-use Rattle.candidates.specs.declared.Chosen.TheVariants.{Nothing}
+use Rattle.candidates.specs.declared.Spot.{Spot as FoundSpot}
 use Rattle.candidates.specs.Answers.{spot_of, Reached}
 use Rattle.candidates.specs.Edges.{ClosedFrom}
 use Rattle.candidates.proofs.LinesEnd.{best_before_end}
@@ -62,16 +61,16 @@ module _ (rows : List ℕ) {p L l m r : ℕ} {best : Option Spot} (reached : Rea
 -- Over the lines
 
 -- the best of the lines below n
-pub record BestOf (rows : List ℕ) (p : ℕ) (best : Chosen) (n : ℕ) : Type 0 where
+pub record BestOf (rows : List ℕ) (p : ℕ) (best : Option FoundSpot) (n : ℕ) : Type 0 where
   pub within : n ≤ 64
   pub best_is : spot_of best ≡ best_of_lines (path_at rows) p n
 
-pub best_of_none : (rows : List ℕ) (p : ℕ) → BestOf rows p Nothing 0
-unfolding spot_of best_of_lines
+pub best_of_none : (rows : List ℕ) (p : ℕ) → BestOf rows p None 0
+unfolding best_of_lines
 best_of_none rows p = record { within = zero-le; best_is = refl }
 
-module _ {rows : List ℕ} {p : ℕ} {best : Chosen} {n : ℕ} (best_of : BestOf rows p best n) where
-  pub best_of_more : n < 64 → {next : Chosen} → spot_of next ≡ best_on_path (path_at rows) p (spot_of best) n (length (path_at rows n)) → BestOf rows p next (n + 1)
+module _ {rows : List ℕ} {p : ℕ} {best : Option FoundSpot} {n : ℕ} (best_of : BestOf rows p best n) where
+  pub best_of_more : n < 64 → {next : Option FoundSpot} → spot_of next ≡ best_on_path (path_at rows) p (spot_of best) n (length (path_at rows n)) → BestOf rows p next (n + 1)
   unfolding best_of_lines
   best_of_more below better = record { within = omega arith; best_is = rw (add-one, ← best_of.best_is) better }
 

@@ -11,7 +11,7 @@ use lib.Dec.{eqb}
 use borrow.Author.Count.{below_none, below_more}
 use borrow.Author.Tests.{eqb-true, eq-eqb, ne_eqb}
 use Rattle.tree.specs.Search.{some_below}
-use Rattle.tree.specs.Record.{path_at}
+use Rattle.tree.specs.Record.{path_at, legal}
 use Rattle.paths.specs.Rules.{row_of, same_node, line_under, class_taken, class_on_path}
 use Rattle.tree.proofs.Searching.{some_below_true, some_below_at, some_below_none}
 use Rattle.paths.proofs.AllBelow.{so_far_more}
@@ -27,19 +27,17 @@ is_free rows L l d i = not (class_taken (path_at rows) (path_at rows L) l d i)
 abbrev pub Classes : List ℕ → ℕ → ℕ → ℕ → ℕ → Type 0
 Classes rows L l d i = NoneBelow d (is_free rows L l d) i
 
--- of class i, which is still the one at hand, the edges i + d·j below e were searched
-pub record EdgesOfClass (marks : List ℕ) (d i₀ i e : ℕ) : Type 0 where
-  pub at_hand : i ≡ i₀
+-- of class i the edges i + d·j below e were searched
+pub record EdgesOfClass (marks : List ℕ) (d i e : ℕ) : Type 0 where
   pub count : ℕ
   pub edge_is : e ≡ i + d * count
   pub unmarked : (j : ℕ) → j < count → marked marks (i + d * j) ≡ false
 
-pub edges_start : (marks : List ℕ) (d i : ℕ) → EdgesOfClass marks d i i i
-edges_start marks d i = record { at_hand = refl; count = 0; edge_is = omega (arith, mul-zero d); unmarked = below_none (λ (j : ℕ). marked marks (i + d * j) ≡ false) }
+pub edges_start : (marks : List ℕ) (d i : ℕ) → EdgesOfClass marks d i i
+edges_start marks d i = record { count = 0; edge_is = omega (arith, mul-zero d); unmarked = below_none (λ (j : ℕ). marked marks (i + d * j) ≡ false) }
 
-pub edges_more : {marks : List ℕ} {d i₀ i e : ℕ} → EdgesOfClass marks d i₀ i e → {b : Bool} → b ≡ marked marks e → b ≡ false → EdgesOfClass marks d i₀ i (e + d)
-edges_more {marks} {d} {i₀} {i} {e} edges answered absent = record {
-  at_hand = edges.at_hand;
+pub edges_more : {marks : List ℕ} {d i e : ℕ} → EdgesOfClass marks d i e → {b : Bool} → b ≡ marked marks e → b ≡ false → EdgesOfClass marks d i (e + d)
+edges_more {marks} {d} {i} edges answered absent = record {
   count = edges.count + 1;
   edge_is = omega (arith, edges.edge_is, mul-add d edges.count 1, mul-one d);
   unmarked = below_more (λ (j : ℕ). marked marks (i + d * j) ≡ false) edges.count edges.unmarked (rw (← edges.edge_is) (sym answered ∙ absent));
@@ -57,22 +55,16 @@ module _ (rows : List ℕ) (L l : ℕ) {marks : List ℕ} (marks_present : Marks
       let both = (and-eq-true_iff (same_node l (path_at rows L) (path_at rows M)) (eqb (row_of l (path_at rows M)).edge e)).0 taken.2 in
       some_below_at 64 _ M taken.1 (rw (both.0, eqb-true (row_of l (path_at rows M)).edge e both.1) (eq-eqb (e % d) (e % d) refl))
 
-  module _ {d i₀ i e : ℕ} (edges : EdgesOfClass marks d i₀ i e) (classes : Classes rows L l d i₀) (in_range : i₀ < d) where
-    class_below : i < d
-    class_below = omega (arith, edges.at_hand)
-
-    searched : Classes rows L l d i
-    searched = rw (← edges.at_hand) at classes
-
+  module _ {d i e : ℕ} (edges : EdgesOfClass marks d i e) (searched : Classes rows L l d i) (in_range : i < d) where
     edge_class : e % d ≡ i
-    edge_class = rw (edges.edge_is, add-mul-mod_self_left i d edges.count) (mod-eq_of_lt class_below)
+    edge_class = rw (edges.edge_is, add-mul-mod_self_left i d edges.count) (mod-eq_of_lt in_range)
 
     -- an edge of the class is present: on to the next class
     pub class_passed : {b : Bool} → b ≡ marked marks e → b ≡ true → Classes rows L l d (i + 1)
-    class_passed answered mark = so_far_more searched class_below (ap not (rw edge_class at (marked_takes d e (sym answered ∙ mark))))
+    class_passed answered mark = so_far_more searched in_range (ap not (rw edge_class at (marked_takes d e (sym answered ∙ mark))))
 
     -- all edges of the class below the weight were searched
-    module _ {end : ℕ} (first : FirstThrough rows end L l) (past : (row_of l (path_at rows L)).weight ≤ e) where
+    module _ (first : FirstThrough rows L l) (is_legal : legal rows ≡ true) (past : (row_of l (path_at rows L)).weight ≤ e) where
       edge_unmarked : (k : ℕ) → k < (row_of l (path_at rows L)).weight → k % d ≡ i → marked marks k ≡ false
       edge_unmarked k below class_is =
           let digits : i + d * (k / d) ≡ k = rw (← class_is) (mod-add-div k d) in
@@ -90,11 +82,11 @@ module _ (rows : List ℕ) (L l : ℕ) {marks : List ℕ} (marks_present : Marks
           go false apart = refl
           go true through =
               let is_present = some_below_at 64 (takes_edge rows L l k) M below (rw through (eq-eqb k k refl)) in
-              ne_eqb (k % d) i (λ same. true≢false (sym is_present ∙ sym (marks_present.each k) ∙ edge_unmarked k (edge_of_node first below through) same))
+              ne_eqb (k % d) i (λ same. true≢false (sym is_present ∙ sym (marks_present.each k) ∙ edge_unmarked k (edge_of_node first is_legal below through) same))
 
       pub class_free : class_on_path (path_at rows) (path_at rows L) l d ≡ Some i
       unfolding class_on_path class_taken
-      class_free = smallest_here searched class_below (ap not (some_below_none 64 _ line_elsewhere))
+      class_free = smallest_here searched in_range (ap not (some_below_none 64 _ line_elsewhere))
 
 pub no_class_free : (rows : List ℕ) (L l : ℕ) {d i : ℕ} → Classes rows L l d i → d ≤ i → class_on_path (path_at rows) (path_at rows L) l d ≡ None
 unfolding class_on_path

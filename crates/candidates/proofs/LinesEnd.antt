@@ -1,11 +1,11 @@
 -- The end of the open lines (specs/Edges.antt): the invariant of the loop that looks for it, and that the search needs no line from there on.
 -- Assumes nothing.
-use Prim.Native.Nat.{ℕ, zero, suc, ◌-◌, ◌<◌, ◌≤◌}
+use Prim.Native.Nat.{ℕ, zero, suc, ◌+◌, ◌-◌, ◌<◌, ◌≤◌}
 use native.Mathlib.Omega.{arith}
 use native.Mathlib.Nat.{eq-or-lt_of_le}
-use mathlib.Core.Path.{◌≡◌, sym, ◌∙◌, ap}
+use mathlib.Core.Path.{◌≡◌}
 use mathlib.Core.Logic.{inl, inr}
-use mathlib.Core.Bool.{Bool, true, false}
+use mathlib.Core.Bool.{true, false}
 use mathlib.Core.List.{List}
 use Rattle.tree.specs.Record.{path_at, no_rows}
 use Rattle.paths.specs.Rules.{best_on_path, best_of_lines}
@@ -16,25 +16,25 @@ pub closed_from_64 : (rows : List ℕ) → ClosedFrom rows 64
 closed_from_64 rows = record { within = omega arith; closed = λ M past below. absurd (omega arith) }
 
 module _ {rows : List ℕ} {end : ℕ} (from : ClosedFrom rows end) where
-  pub none_open : end ≤ 0 → EndOfLines rows end
-  none_open none_left = record { closed_from = from; last_open = λ M is_next. absurd (omega arith) }
+  pub none_open : end ≤ 0 → EndOfLines rows 0
+  none_open none_left = record { closed_from = let none : end ≡ 0 = omega arith in rw none at from; last_open = λ M is_next. absurd (omega arith) }
 
-  -- b answered whether the last of the lines below `end` is closed
-  module _ (some_left : 0 < end) {b : Bool} (answered : b ≡ no_rows (path_at rows (end - 1))) where
-    pub closed_one_more : b ≡ true → ClosedFrom rows (end - 1)
+  -- the last of the lines below `end` is closed, or it is open
+  module _ (some_left : 0 < end) where
+    pub closed_one_more : no_rows (path_at rows (end - 1)) ≡ true → ClosedFrom rows (end - 1)
     closed_one_more is_closed = record { within = omega (arith, from.within); closed = each }
       where
         each : (M : ℕ) → end - 1 ≤ M → M < 64 → no_rows (path_at rows M) ≡ true
         each M past below =
             elim (eq-or-lt_of_le past) [
-              | inl here ↦ ap (λ (N : ℕ). no_rows (path_at rows N)) (sym here) ∙ sym answered ∙ is_closed
+              | inl here ↦ rw (← here) is_closed
               | inr later ↦ from.closed M (omega arith) below
             ]
 
-    pub last_found : b ≡ false → EndOfLines rows end
-    last_found is_open = record {
+    pub last_found : no_rows (path_at rows (end - 1)) ≡ false → EndOfLines rows (end - 1 + 1)
+    last_found is_open = let here : end - 1 + 1 ≡ end = omega arith in rw here record {
       closed_from = from;
-      last_open = λ M is_next. let here : end - 1 ≡ M = omega arith in rw here at (sym answered ∙ is_open);
+      last_open = λ M is_next. let next : end - 1 ≡ M = omega arith in rw next at is_open;
     }
 
   -- closed lines offer nothing

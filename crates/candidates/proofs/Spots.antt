@@ -7,20 +7,13 @@ use mathlib.Core.Bool.{Bool, true, false, true≢false}
 use mathlib.Core.List.{List}
 use Rattle.std.specs.Prelude.{Option, None, Some, option_map}
 use Rattle.std.proofs.lemmas.Option.{none-some, same_Some}
-use lib.Dec.{ltb}
 use lib.ListN.{length}
 use Rattle.tree.specs.Numbers.{divides, gcd}
 use Rattle.tree.specs.Tree.{Place}
 use Rattle.tree.specs.Opening.{divisor}
 use Rattle.tree.specs.Record.{row_at, path_at}
 use Rattle.paths.specs.Rules.{Family, row_of, Spot, place_of, class_on_path, spot_with, better_spot}
-use Rattle.tree.proofs.PlaceOrder.{before_in_level, before_across_levels}
-use Rattle.candidates.specs.declared.Class.{Class}
-use Rattle.candidates.specs.declared.Class.TheVariants.{Free, Full}
-use Rattle.candidates.specs.declared.Spot.{Spot as Spot·}
-use Rattle.candidates.specs.declared.Chosen.{Chosen}
-use Rattle.candidates.specs.declared.Chosen.TheVariants.{At, Nothing}
-use Rattle.candidates.specs.Answers.{class_of, spot_of, comes_first}
+use Rattle.candidates.specs.Answers.{comes_first}
 use Rattle.paths.proofs.PathRows.{weight_read}
 
 -- The offer of one node
@@ -32,15 +25,9 @@ module _ (rows : List ℕ) (p L l m r : ℕ) where
     unfolding divisor
     divisor_is = rw (weight_read rows L below read) (sym common)
 
-    -- and x the class found
-    module _ {x : Class} (found : class_of x ≡ class_on_path (path_at rows) (path_at rows L) l d) where
-      pub spot_full : x ≡ Full → spot_with (path_at rows) p L l m r ≡ None
-      unfolding spot_with class_of
-      spot_full full = rw (divided, divisor_is, ← found, full)
-
-      pub spot_free : (i : ℕ) → x ≡ Free i → spot_with (path_at rows) p L l m r ≡ Some (record { line = L; level = l; offset = r; step = m; divisor = d; class = i })
-      unfolding spot_with class_of
-      spot_free i free = rw (divided, divisor_is, ← found, free)
+    pub offered : spot_with (path_at rows) p L l m r ≡ option_map (λ i. record { line = L; level = l; offset = r; step = m; divisor = d; class = i }) (class_on_path (path_at rows) (path_at rows L) l d)
+    unfolding spot_with
+    offered = rw (divided, divisor_is)
 
 pub step_not_dividing : (family : Family) (p M l m r : ℕ) → divides m p ≡ false → spot_with family p M l m r ≡ None
 unfolding spot_with
@@ -81,19 +68,3 @@ pub better_than_none : (o : Option Spot) → better_spot o None ≡ o
 unfolding better_spot
 better_than_none None = refl
 better_than_none (Some b) = refl
-
--- Whether a place comes first, as the code finds it
-
-module _ (l r : ℕ) {best : Chosen} where
-  pub first_of_all : best ≡ Nothing → true ≡ comes_first (record { level = l; offset = r }) (spot_of best)
-  unfolding comes_first spot_of
-  first_of_all told = rw told
-
-  module _ (s : Spot·) (told : best ≡ At s) where
-    pub first_in_level : l ≡ s.level → ltb r s.offset ≡ comes_first (record { level = l; offset = r }) (spot_of best)
-    unfolding comes_first spot_of place_of
-    first_in_level same = rw told (sym (before_in_level _ _ same))
-
-    pub first_by_level : (l ≡ s.level → ⊥) → ltb s.level l ≡ comes_first (record { level = l; offset = r }) (spot_of best)
-    unfolding comes_first spot_of place_of
-    first_by_level other = rw told (sym (before_across_levels _ _ other))

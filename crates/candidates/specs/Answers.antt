@@ -1,38 +1,28 @@
 -- What the searches of this crate answer, as the definitions over paths have it (crate paths, specs/Rules.antt).
 -- Assumes nothing.
 use Rattle.std.specs.Prelude.{ℕ, ◌≤◌, ◌≡◌, Bool, true, length, take}
-use Rattle.std.specs.Prelude.{Option, None, Some}
+use Rattle.std.specs.Prelude.{Option, None, Some, option_map}
 use Rattle.tree.specs.Search.{some_below}
 use Rattle.tree.specs.Tree.{product, sum, Place}
 use Rattle.tree.specs.Opening.{before}
 use Rattle.paths.specs.Rules.{Family, same_node, Spot, place_of, best_on_path, best_of_lines}
 use Rattle.candidates.specs.declared.Spot.{Spot as FoundSpot}
-use Rattle.candidates.specs.declared.Class.{Class}
-use Rattle.candidates.specs.declared.Class.TheVariants.{Free, Full}
-use Rattle.candidates.specs.declared.Chosen.{Chosen}
-use Rattle.candidates.specs.declared.Chosen.TheVariants.{At, Nothing}
-
--- the free class that was found
-unfoldable pub class_of : Class → Option ℕ
-class_of (Free i) = Some i
-class_of Full = None
 
 -- a candidate of the code as one of the definitions
 abbrev pub spot_in : FoundSpot → Spot
 spot_in s =
     record {
-      line = s.line;
-      level = s.level;
-      offset = s.offset;
-      step = s.step;
+      line = s.node.line.number;
+      level = s.node.level;
+      offset = s.node.offset;
+      step = s.node.step;
       divisor = s.divisor;
       class = s.class;
     }
 
 -- the candidate that was found
-unfoldable pub spot_of : Chosen → Option Spot
-spot_of (At s) = Some (spot_in s)
-spot_of Nothing = None
+abbrev pub spot_of : Option FoundSpot → Option Spot
+spot_of = option_map spot_in
 
 -- a place comes before the best so far, or there is none so far
 unfoldable pub comes_first : Place → Option Spot → Bool

@@ -4,7 +4,7 @@ use Rattle.std.specs.Prelude.{ℕ, suc, ◌/◌, ◌%◌, ◌^◌, ◌<◌, ◌�
 use Rattle.std.specs.Int.Bits.{bit_or}
 use Rattle.tree.specs.declared.Row.{Row}
 use Rattle.tree.specs.Search.{found}
-use Rattle.tree.specs.Record.{path_at, no_rows, legal}
+use Rattle.tree.specs.Record.{path_at, no_rows}
 use Rattle.paths.specs.Rules.{Family, line_under}
 use Rattle.candidates.specs.Answers.{seen_earlier}
 
@@ -34,10 +34,7 @@ pub record EndOfLines (rows : List ℕ) (end : ℕ) : Type 0 where
   pub closed_from : ClosedFrom rows end
   pub last_open : (M : ℕ) → end ≡ suc M → no_rows (path_at rows M) ≡ false
 
--- line L of a legal record is the first whose path goes through the node at level l of its path
-pub record FirstThrough (rows : List ℕ) (end L l : ℕ) : Type 0 where
-  pub is_legal : legal rows ≡ true
-  pub lines : ClosedFrom rows end
-  pub line_below : L < 64
+-- line L is the first whose path goes through the node at level l of its path
+pub record FirstThrough (rows : List ℕ) (L l : ℕ) : Type 0 where
   pub on_path : l < length (path_at rows L)
   pub unseen : seen_earlier (path_at rows) L l ≡ false

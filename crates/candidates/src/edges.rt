@@ -3,7 +3,10 @@ ghost use Rattle.std.specs.Prelude.{◌≡◌, ◌<◌, replicate};
 ghost use Rattle.tree.specs.Record.{path_at};
 ghost use Rattle.candidates.specs.Edges.{marked, with_mark, FirstThrough, MarksPresent};
 
+use crate::PathNode;
+use crate::open_lines::OpenLines;
 use paths::{edge, same_node};
+use tree::line::Line;
 
 // The edge is marked.
 pub fn is_marked(marks: &[u64; 64], edge: usize) -> bool
@@ -23,19 +26,16 @@ pub fn mark(marks: &mut [u64; 64], edge: usize)
 }
 
 // Marks the edges of a node that lines take: one pass over the lines, from the first whose path goes through the node up to the last open one.
-pub(crate) fn mark_present(
-    rows: &[u16; 1408],
-    end: usize,
-    line: usize,
-    level: usize,
-    marks: &mut [u64; 64],
-)
-    requires { FirstThrough rows.now end line level × (marks.old ≡ replicate 64 0) }
-    ensures { MarksPresent (path_at rows.now) (path_at rows.now line) level marks.new }
+pub(crate) fn mark_present(lines: OpenLines<'_>, node: PathNode, marks: &mut [u64; 64])
+    requires first { FirstThrough lines.record.rows.now node.line.number node.level }
+    requires none_marked { marks.old ≡ replicate 64 0 }
+    ensures { let rows = lines.entry.record.rows.now in MarksPresent (path_at rows) (path_at rows node.line.number) node.level marks.new }
 {
-    for other in line..end {
-        if same_node(rows, line, other, level) {
-            mark(marks, edge(rows, other, level) as usize);
+    let rows = lines.record.rows;
+    for number in node.line.number..lines.end {
+        let line = Line { number };
+        if same_node(rows, node.line, line, node.level) {
+            mark(marks, edge(rows, line, node.level) as usize);
         }
     }
 }

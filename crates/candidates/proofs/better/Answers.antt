@@ -1,44 +1,32 @@
 -- `candidates::better` meets its contract: a node that does not come first, whose step does not divide or that was seen earlier has nothing better to offer; any other is searched.
 -- Assumes nothing.
-use native.Mathlib.Omega.{arith}
-use mathlib.Core.Path.{sym, ◌∙◌}
+use mathlib.Core.Path.{sym}
 use borrow.Author.Tests.{eq-eqb}
 use Rattle.tree.specs.Numbers.{divides}
-use Rattle.paths.proofs.PathRest.{path_length_at_most_11}
-use Rattle.candidates.proofs.BetterOffer.{not_first, not_dividing, seen_before, no_offer, first_offer}
+use Rattle.paths.proofs.PathRows.{within_path}
+use Rattle.candidates.proofs.SeenEarlier.{seen_no_better}
+use Rattle.candidates.proofs.BetterOffer.{not_first, not_dividing, first_offer}
 use Rattle.candidates.proofs.BestOnPath.{step_positive}
 use Rattle.candidates.proofs.better.Goals as goal
 
 pub returns-then-not-comes_first : goal.returns-then-not-comes_first
-returns-then-not-comes_first c = not_first _ c.requires.reached c.comes_first.ensures c.if-not-comes_first.true
+returns-then-not-comes_first c = not_first _ c.requires.reached (sym c.if-not-comes_first.ensures)
 
 pub nonzero_rem-period : goal.nonzero_rem-period
-nonzero_rem-period c = step_positive _ c.requires.reached c.requires.in_record.1 c.requires.in_record.0
+nonzero_rem-period c = step_positive _ c.requires.reached c.args.lines.record.is_legal c.args.node.line.below_64
 
-pub returns-then-period-step-ne0 : goal.returns-then-period-step-ne0
-returns-then-period-step-ne0 c = not_dividing _ c.requires.reached c.if-period-step-ne0.true
+pub returns-then-period-node-ne0 : goal.returns-then-period-node-ne0
+returns-then-period-node-ne0 c = not_dividing _ c.requires.reached c.if-period-node-ne0.true
 
 pub seen_earlier-requires : goal.seen_earlier-requires
-seen_earlier-requires c = omega (arith, path_length_at_most_11 c.args.rows.now c.args.line)
+seen_earlier-requires c = within_path _ _ c.requires.on_path
 
 pub returns-then-seen_earlier : goal.returns-then-seen_earlier
-returns-then-seen_earlier c = seen_before _ _ c.requires.reached c.requires.in_record.1 c.requires.in_record.0 c.seen_earlier.ensures c.if-seen_earlier.true
+returns-then-seen_earlier c = sym (seen_no_better _ _ _ _ c.args.lines.record.is_legal c.args.node.line.below_64 c.requires.reached (sym c.if-seen_earlier.ensures))
 
-pub spot_at-offer-requires : goal.spot_at-offer-requires
+pub spot_at-requires-clause-divides : goal.spot_at-requires-clause-divides
 unfolding divides
-spot_at-offer-requires c = (
-  record {
-    is_legal = c.requires.in_record.1;
-    lines = c.requires.in_record.3;
-    line_below = c.requires.in_record.0;
-    on_path = c.requires.in_record.2;
-    unseen = sym c.seen_earlier.ensures ∙ c.if-seen_earlier.false;
-  },
-  (step_positive _ c.requires.reached c.requires.in_record.1 c.requires.in_record.0, eq-eqb _ _ c.if-period-step-ne0.false),
-)
-
-pub returns-in_default : goal.returns-in_default
-returns-in_default c = no_offer _ c.requires.reached c.spot_at-offer.ensures c.in_default.is
+spot_at-requires-clause-divides c = (step_positive _ c.requires.reached c.args.lines.record.is_legal c.args.node.line.below_64, eq-eqb _ _ c.if-period-node-ne0.false)
 
 pub returns : goal.returns
-returns c = first_offer _ c.requires.reached c.comes_first.ensures c.spot_at-offer.ensures c.if-not-comes_first.false _ c.in-At.is
+returns c = rw c.or.ensures (first_offer _ c.requires.reached (sym c.if-not-comes_first.ensures) _ c.spot_at.ensures)

@@ -1,13 +1,19 @@
 -- `candidates::comes_first` meets its contract: the larger level comes first, and in one level the smaller offset.
 -- Assumes nothing.
-use Rattle.candidates.proofs.Spots.{first_of_all, first_in_level, first_by_level}
+use mathlib.Core.Path.{sym}
+use Rattle.paths.specs.Rules.{place_of}
+use Rattle.tree.proofs.PlaceOrder.{before_in_level, before_across_levels}
+use Rattle.candidates.specs.Answers.{comes_first}
 use Rattle.candidates.proofs.comes_first.Goals as goal
 
 pub returns-in_default : goal.returns-in_default
-returns-in_default c = first_of_all _ _ c.in_default.is
+unfolding comes_first
+returns-in_default c = rw c.in_default.is
 
-pub returns-then-level-first : goal.returns-then-level-first
-returns-then-level-first c = first_in_level _ _ _ c.in-At.is c.if-level-first.true
+pub returns-then-node-first : goal.returns-then-node-first
+unfolding comes_first place_of
+returns-then-node-first c = rw c.in-Some.is (sym (before_in_level _ _ c.if-node-first.true))
 
 pub returns : goal.returns
-returns c = first_by_level _ _ _ c.in-At.is c.if-level-first.false
+unfolding comes_first place_of
+returns c = rw c.in-Some.is (sym (before_across_levels _ _ c.if-node-first.false))

@@ -5,28 +5,27 @@ use Rattle.candidates.proofs.PresentEdges.{marking_start, marking_apart, marking
 use Rattle.candidates.proofs.edges.mark_present.Goals as goal
 use Rattle.candidates.proofs.edges.mark_present.Goals.{then-same_node, else-same_node}
 
-pub loop-other-init : goal.loop-other-init
-loop-other-init c = rw c.requires.1 (marking_start c.requires.0)
+pub loop-number-init : goal.loop-number-init
+loop-number-init c = rw c.requires.none_marked (marking_start c.requires.first c.args.node.line.below_64)
 
 pub same_node-requires : goal.same_node-requires
-same_node-requires c = omega (arith, within_path c.args.rows.now c.args.line c.requires.0.on_path)
+same_node-requires c = within_path _ _ c.requires.first.on_path
 
 pub edge-requires : goal.edge-requires
-edge-requires c = omega (arith, within_path c.args.rows.now c.args.line c.requires.0.on_path)
+edge-requires c = within_path _ _ c.requires.first.on_path
 
 -- the edge that was read is one of the node's, and so below 4,096
 pub mark-requires : goal.mark-requires
-mark-requires c = edge_small c.requires.0 c.loop-other.invariant (omega (arith, c.loop-other-test.true, c.requires.0.lines.within)) c.same_node.ensures c.if-same_node.true c.edge.ensures
+mark-requires c = edge_small c.loop-number.invariant (omega (arith, c.loop-number-test.true)) c.same_node.ensures c.if-same_node.true c.edge.ensures c.requires.first c.args.lines.record.is_legal c.args.node.line.below_64
 
-pub loop-other-preserved : goal.loop-other-preserved
-loop-other-preserved c =
-    let from = c.requires.0 in
-    let inv = c.loop-other.invariant in
-    let below : c.loop-other.other < 64 = omega (arith, c.loop-other-test.true, from.lines.within) in
+pub loop-number-preserved : goal.loop-number-preserved
+loop-number-preserved c =
+    let below : c.loop-number.number < 64 = omega (arith, c.loop-number-test.true) in
     elim c.if-same_node.branch [
-      | then-same_node w ↦ rw w.marks-is (marking_through from inv below c.same_node.ensures w.if-same_node.true w.edge.ensures w.mark.ensures)
-      | else-same_node w ↦ rw w.marks-is (marking_apart from inv below c.same_node.ensures w.if-same_node.false)
+      | then-same_node w ↦
+          rw w.marks-is (marking_through c.loop-number.invariant below c.same_node.ensures w.if-same_node.true w.edge.ensures c.requires.first c.args.lines.record.is_legal c.args.node.line.below_64 w.mark.ensures)
+      | else-same_node w ↦ rw w.marks-is (marking_apart c.loop-number.invariant below c.same_node.ensures w.if-same_node.false)
     ]
 
 pub returns : goal.returns
-returns c = marking_all c.requires.0 c.loop-other.invariant c.loop-other-test.false
+returns c = marking_all c.args.lines.closed_from c.loop-number.invariant c.loop-number-test.false
