@@ -1,19 +1,23 @@
 -- The figures of a sheet (crate tree, specs/Sheet.antt) of a legal record: a line's turns, whether a round is idle, and the loop that counts idle rounds.
 -- Assumes nothing.
-use Rattle.std.specs.Prelude.{if◌then◌else◌}
-use Prim.Native.Nat.{ℕ, ◌+◌, ◌<◌, ◌≤◌, zero-le}
+use Prim.Native.Nat.{ℕ, zero, suc, ◌<◌, ◌≤◌}
 use native.Mathlib.Omega.{arith}
 use mathlib.Core.Path.{◌≡◌, refl, sym, ◌∙◌, ap}
-use mathlib.Core.Bool.{true, false, not}
+use mathlib.Core.Bool.{Bool, true, false}
 use mathlib.Core.List.{List}
-use Rattle.std.specs.Prelude.{Option}
+use Rattle.std.proofs.Common.{length, zero-add, add-one}
+use Rattle.std.specs.List.{range_with_len, sum_by, filter}
+use Rattle.std.proofs.lemmas.List.{map-id}
+use Rattle.std.proofs.lemmas.List.Sums.{length-filter}
+use Rattle.std.proofs.lemmas.List.FromFn.{sum_by-map-range_with_len_more}
+use Rattle.std.specs.Prelude.{Option, None, Some, option_map}
+use Rattle.std.specs.Option.{is_some}
 use Rattle.tree.specs.Search.{found, total_below, count_below}
-use Rattle.tree.specs.Tree.{Tree, product, sum}
+use Rattle.tree.specs.Tree.{product, sum}
 use Rattle.tree.specs.Asking.{owned}
-use Rattle.tree.specs.Sheet.{line_turns, idle_rounds}
+use Rattle.tree.specs.Sheet.{line_turns}
 use Rattle.tree.specs.Record.{path_at, no_rows, legal}
 use Rattle.paths.specs.Rules.{owner_on_paths}
-use Rattle.tree.proofs.Totals.{count_at_most, count_more}
 use Rattle.tree.proofs.Ownership.{turns_at_most}
 use Rattle.tree.proofs.Sheets.{line_turns_are}
 use Rattle.bridge.specs.Rows.{tree_of_rows}
@@ -45,24 +49,20 @@ module _ (rows : List ℕ) (is_legal : legal rows ≡ true) where
   unfolding owned
   owned_by_walk n o walked = sym (ap found (walked ∙ owner_on_record rows is_legal n))
 
--- The idle rounds among N that begin with a, of which k were walked
+pub found_mapped : {A B : Type 0} (f : A → B) (o : Option A) → found (option_map f o) ≡ is_some o
+unfolding found
+found_mapped f None = refl
+found_mapped f (Some a) = refl
 
-pub record IdleAmong (t : Tree) (a N idle k : ℕ) : Type 0 where
-  pub within : k ≤ N
-  pub idle_is : idle ≡ idle_rounds a k t
+-- The numbers below n that pass a test, filtered from their list and counted
 
-pub none_walked : (t : Tree) (a N : ℕ) → IdleAmong t a N 0 0
-unfolding idle_rounds count_below total_below
-none_walked t a N = record { within = zero-le; idle_is = refl }
+listed_total : (count : ℕ → ℕ) (n : ℕ) → sum_by count (range_with_len 0 n) ≡ total_below n count
+unfolding total_below
+listed_total count zero = refl
+listed_total count (suc n) =
+    let one_more = simp map-id at (sum_by-map-range_with_len_more count (λ i. i) 0 n n (zero-add n)) in
+    rw add-one at one_more ∙ rw (listed_total count n)
 
-module _ {t : Tree} {a N idle k : ℕ} (so_far : IdleAmong t a N idle k) where
-  pub idle_at_most : idle ≤ k
-  unfolding idle_rounds
-  idle_at_most = rw so_far.idle_is (count_at_most k (λ i. not (owned (a + i) t)))
-
-  pub one_more_walked : k < N → {n : ℕ} → n ≡ (if not (owned (a + k) t) then 1 else 0) → IdleAmong t a N (idle + n) (k + 1)
-  unfolding idle_rounds
-  one_more_walked below is = record { within = omega arith; idle_is = rw (count_more k (λ i. not (owned (a + i) t)), so_far.idle_is, is) }
-
-  pub all_walked : N ≤ k → idle ≡ idle_rounds a N t
-  all_walked past = let whole : k ≡ N = omega (arith, so_far.within) in so_far.idle_is ∙ ap (λ (n : ℕ). idle_rounds a n t) whole
+pub filtered_count : (test : ℕ → Bool) (n : ℕ) → length (filter test (range_with_len 0 n)) ≡ count_below n test
+unfolding count_below
+filtered_count test n = length-filter test (range_with_len 0 n) ∙ listed_total _ n

@@ -1,41 +1,33 @@
 // How long the recorder rests: the rounds from an idle one to the next turn of any open line.
-ghost use Rattle.std.specs.Prelude.{◌≡◌, true, ◌<◌};
+ghost use Rattle.std.specs.Prelude.{◌≡◌};
 ghost use Rattle.tree.specs.Asking.{rest};
-ghost use Rattle.tree.specs.Record.{path_at, legal};
+ghost use Rattle.tree.specs.Record.{path_at};
 ghost use Rattle.bridge.specs.Rows.{tree_of_rows};
 ghost use Rattle.asking.specs.Turns.{nearer_turn};
 
-use crate::{times_of, until_turn};
+use crate::times_of;
+use paths::record::TreeRecord;
+use tree::line::Line;
 
-// The fewest rounds to a turn, of the lines so far and of this one. A closed line has no turn.
-fn nearer_turn(rows: &[u16; 1408], line: usize, round: u64, least: u64) -> u64
-    requires { (legal rows.now ≡ true) × (line < 64) }
-    ensures { result ≡ nearer_turn (path_at rows.now line) round least }
+// The fewest rounds to a turn, of the lines so far and of this one; nothing where none of them has a turn. A closed line has
+// no turn.
+fn nearer_turn(tree: TreeRecord<'_>, line: Line, round: u64, least: Option<u16>) -> Option<u16>
+    ensures { result ≡ nearer_turn (path_at tree.entry.rows.now line.number) round least }
 {
-    if paths::is_closed(rows, line) {
+    if paths::is_closed(tree.rows, line) {
         return least;
     }
-    let until = until_turn(times_of(rows, line), round);
-    if least < until {
-        return least;
-    }
-    until
+    let until = times_of(tree, line).until_turn(round);
+    Some(least.map_or(until, |rounds| until.min(rounds)))
 }
 
-// The rest of a round, 0 in the empty plan. Every turn is less than 4,095 rounds away, so that this number stands for none
-// so far.
-pub fn rest_of(rows: &[u16; 1408], round: u64) -> u16
-    requires { legal rows.now ≡ true }
-    ensures { result ≡ rest round (tree_of_rows rows.now) }
+// The rest of a round, 0 in the empty plan.
+pub fn rest_of(tree: TreeRecord<'_>, round: u64) -> u16
+    ensures { result ≡ rest round (tree_of_rows tree.entry.rows.now) }
 {
-    let mut least: u64 = 4095;
-    let mut line = 0;
-    while line < 64 {
-        least = nearer_turn(rows, line, round, least);
-        line += 1;
+    let mut least = None;
+    for number in 0..64 {
+        least = nearer_turn(tree, Line { number }, round, least);
     }
-    if least == 4095 {
-        return 0;
-    }
-    least as u16
+    least.unwrap_or(0)
 }

@@ -5,16 +5,16 @@ use Rattle.paths.proofs.NoneBelow.{smallest_nowhere, smallest_here}
 use Rattle.asking.specs.Answers.{first_open}
 use Rattle.asking.proofs.first_open.Goals as goal
 
-pub loop-line-init : goal.loop-line-init
-loop-line-init c = so_far_none _ _
+pub loop-number-init : goal.loop-number-init
+loop-number-init c = so_far_none _ _
 
 pub returns-then-not-is_closed : goal.returns-then-not-is_closed
 unfolding first_open
-returns-then-not-is_closed c = sym (smallest_here c.loop-line.invariant c.loop-line-test.true (ap not (sym c.is_closed.ensures ∙ c.if-not-is_closed.true)))
+returns-then-not-is_closed c = sym (smallest_here c.loop-number.invariant c.loop-number-test.true (ap not (sym c.is_closed.ensures ∙ c.if-not-is_closed.true)))
 
-pub loop-line-preserved : goal.loop-line-preserved
-loop-line-preserved c = so_far_more c.loop-line.invariant c.loop-line-test.true (ap not (sym c.is_closed.ensures ∙ c.if-not-is_closed.false))
+pub loop-number-preserved : goal.loop-number-preserved
+loop-number-preserved c = so_far_more c.loop-number.invariant c.loop-number-test.true (ap not (sym c.is_closed.ensures ∙ c.if-not-is_closed.false))
 
 pub returns : goal.returns
 unfolding first_open
-returns c = sym (smallest_nowhere c.loop-line.invariant c.loop-line-test.false)
+returns c = sym (smallest_nowhere c.loop-number.invariant c.loop-number-test.false)

@@ -1,5 +1,3 @@
-use mathlib.Core.Path.{ap₂}
-use Rattle.tree.specs.Tree.{row}
 use Rattle.paths.proofs.Filled.{filled_none, filled_more}
 use Rattle.paths.proofs.LegalLines.{legal_rest_unused}
 use Rattle.asking.proofs.ElevenRows.{copied_all}
@@ -9,7 +7,7 @@ pub loop-row-init : goal.loop-row-init
 loop-row-init c = filled_none _ _ _ _
 
 pub loop-row-preserved : goal.loop-row-preserved
-loop-row-preserved c = filled_more c.loop-row.invariant c.loop-row-test.true (ap₂ row c.weight-w.ensures c.edge-e.ensures)
+loop-row-preserved c = filled_more c.loop-row.invariant c.loop-row-test.true c.row.ensures
 
 pub returns : goal.returns
-returns c = copied_all _ _ c.loop-row.invariant c.loop-row-test.false (legal_rest_unused _ c.requires.0 _ c.requires.1)
+returns c = copied_all _ _ c.loop-row.invariant c.loop-row-test.false (legal_rest_unused _ c.args.tree.is_legal _ c.args.line.below_64)

@@ -1,14 +1,12 @@
-use Rattle.asking.proofs.NearestTurn.{nearest_of_none, nearest_of_one_more, no_turn_rest, nearest_turn_rest}
+use mathlib.Core.Path.{◌∙◌}
+use Rattle.asking.proofs.NearestTurn.{nearest_of_none, nearest_of_one_more, rest_found}
 use Rattle.asking.proofs.rest.rest_of.Goals as goal
 
-pub loop-line-init : goal.loop-line-init
-loop-line-init c = nearest_of_none _ _
+pub loop-number-init : goal.loop-number-init
+loop-number-init c = nearest_of_none _ _
 
-pub loop-line-preserved : goal.loop-line-preserved
-loop-line-preserved c = nearest_of_one_more c.loop-line.invariant c.loop-line-test.true c.nearer_turn-least.ensures
-
-pub returns-then-least-eq4095 : goal.returns-then-least-eq4095
-returns-then-least-eq4095 c = no_turn_rest _ c.requires _ c.loop-line.invariant c.loop-line-test.false c.if-least-eq4095.true
+pub loop-number-preserved : goal.loop-number-preserved
+loop-number-preserved c = nearest_of_one_more c.loop-number-test.true c.loop-number.invariant c.nearer_turn-least.ensures
 
 pub returns : goal.returns
-returns c = nearest_turn_rest _ c.requires _ c.loop-line.invariant c.loop-line-test.false c.if-least-eq4095.false
+returns c = c.unwrap_or.ensures ∙ rest_found _ c.args.tree.is_legal _ c.loop-number.invariant c.loop-number-test.false

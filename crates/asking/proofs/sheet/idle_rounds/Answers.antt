@@ -1,15 +1,21 @@
-use native.Mathlib.Omega.{arith}
-use Rattle.asking.proofs.SheetFigures.{none_walked, idle_at_most, one_more_walked, all_walked}
+-- `asking::sheet::idle_rounds` meets its contract: the rounds that are idle are filtered and counted.
+-- Assumes nothing.
+use Prim.Native.Nat.{ℕ, ◌+◌}
+use native.Mathlib.Nat.{sub-zero}
+use mathlib.Core.Path.{◌∙◌}
+use mathlib.Core.Bool.{not}
+use Rattle.std.proofs.Common.{rules, tests}
+use Rattle.std.proofs.lemmas.Iterator.{YieldsList-from_range}
+use Rattle.std.proofs.lemmas.Iterator.Consumers.{count_from_yields_List, YieldsList-from_filter}
+use Rattle.tree.specs.Asking.{owned}
+use Rattle.tree.specs.Sheet.{idle_rounds}
+use Rattle.bridge.specs.Rows.{tree_of_rows}
+use Rattle.asking.proofs.SheetFigures.{filtered_count}
 use Rattle.asking.proofs.sheet.idle_rounds.Goals as goal
 
-pub loop-ahead-init : goal.loop-ahead-init
-loop-ahead-init c = none_walked _ _ _
-
-pub overflow_add-idle : goal.overflow_add-idle
-overflow_add-idle c = omega (arith, idle_at_most (one_more_walked c.loop-ahead.invariant (omega (arith, c.loop-ahead-test.true)) c.idle_at-idle.ensures))
-
-pub loop-ahead-preserved : goal.loop-ahead-preserved
-loop-ahead-preserved c = one_more_walked c.loop-ahead.invariant (omega (arith, c.loop-ahead-test.true)) c.idle_at-idle.ensures
-
 pub returns : goal.returns
-returns c = all_walked c.loop-ahead.invariant c.loop-ahead-test.false
+unfolding idle_rounds
+returns c =
+    let idle = λ (i : ℕ). not (owned (c.args.first + i) (tree_of_rows c.args.tree.rows.now)) in
+    count_from_yields_List _ _ c.count.ensures.ran (YieldsList-from_filter _ idle (YieldsList-from_range 0 c.args.rounds _ (cc) (sub-zero _)) c.filter.ensures.closure (λ x r q k. search (rules, tests)))
+    ∙ filtered_count idle c.args.rounds

@@ -1,28 +1,23 @@
 -- `asking::sheet::line_turns` meets its contract: a closed line has no turns, and those of an open one are found from its times.
 -- Assumes nothing.
+use Prim.Native.Nat.{◌≤◌}
 use native.Mathlib.Omega.{arith}
-use mathlib.Core.Path.{sym, ◌∙◌}
-use Rattle.paths.proofs.PathNumbers.{path_start_below}
+use mathlib.Core.Path.{◌≡◌, sym, ◌∙◌}
+use Rattle.tree.specs.Sheet.{line_turns}
+use Rattle.bridge.specs.Rows.{tree_of_rows}
 use Rattle.asking.proofs.SheetFigures.{turns_of_closed, turns_of_open}
 use Rattle.asking.proofs.sheet.line_turns.Goals as goal
+use Rattle.asking.proofs.sheet.line_turns.Goals.{After-turns}
+
+counted : (c : After-turns) → (c.turns.result ≡ line_turns c.args.line.number c.args.first c.args.rounds (tree_of_rows c.args.tree.rows.now)) × (c.turns.result ≤ c.args.rounds)
+counted c =
+    turns_of_open _ c.args.tree.is_legal _ c.args.line.below_64 _ _ (sym c.is_closed.ensures ∙ c.if-is_closed.false) c.times_of.ensures.0 c.times_of.ensures.1 c.turns.ensures
 
 pub returns-then-is_closed : goal.returns-then-is_closed
-returns-then-is_closed c =
-    let given = c.requires in
-    turns_of_closed _ given.0 _ given.1 _ _ (sym c.is_closed.ensures ∙ c.if-is_closed.true)
-
-pub turns_of-requires : goal.turns_of-requires
-turns_of-requires c =
-    let given = c.requires in
-    rw (c.times_of.ensures.0, c.times_of.ensures.1) (path_start_below _ given.0 _ given.1)
+returns-then-is_closed c = turns_of_closed _ c.args.tree.is_legal _ c.args.line.below_64 _ _ (sym c.is_closed.ensures ∙ c.if-is_closed.true)
 
 pub overflow_cast-result : goal.overflow_cast-result
-overflow_cast-result c =
-    let is_there = sym c.is_closed.ensures ∙ c.if-is_closed.false in
-    let counted = turns_of_open _ c.requires.0 _ c.requires.1 _ _ is_there c.times_of.ensures.0 c.times_of.ensures.1 c.turns_of.ensures in
-    omega (arith, counted.1)
+overflow_cast-result c = omega (arith, (counted (goal.at.overflow_cast-result c).After-turns).1)
 
 pub returns : goal.returns
-returns c =
-    let is_there = sym c.is_closed.ensures ∙ c.if-is_closed.false in
-    (turns_of_open _ c.requires.0 _ c.requires.1 _ _ is_there c.times_of.ensures.0 c.times_of.ensures.1 c.turns_of.ensures).0
+returns c = (counted (goal.at.returns c).After-turns).0
