@@ -8,7 +8,7 @@ use mathlib.Core.List.{List}
 use Rattle.tree.specs.Calls.{close_line, refusal, refused}
 use Rattle.tree.specs.Record.{path_at, legal}
 use Rattle.tree.proofs.Checks.{line_refused_1, line_refused_4}
-use Rattle.paths.specs.declared.Found.TheVariants.{Nothing}
+use Rattle.std.specs.Prelude.{None}
 use Rattle.paths.specs.Answers.{lookup}
 use Rattle.paths.proofs.PathLength.{lookup_nothing}
 use Rattle.bridge.specs.Rows.{tree_of_rows, CarriedOut}
@@ -19,7 +19,7 @@ pub close_above : (rows : List ℕ) (L : ℕ) → 63 < L → CarriedOut (close_l
 unfolding refusal
 close_above rows L above = refused_on (close_line L) rows 1 (line_refused_1 L (tree_of_rows rows) above)
 
-pub close_absent : (rows : List ℕ) (L : ℕ) → legal rows ≡ true → L ≤ 63 → lookup (path_at rows L) ≡ Nothing → CarriedOut (close_line L) rows rows (refused 4)
+pub close_absent : (rows : List ℕ) (L : ℕ) → legal rows ≡ true → L ≤ 63 → lookup (path_at rows L) ≡ None → CarriedOut (close_line L) rows rows (refused 4)
 unfolding refusal
 close_absent rows L is_legal number h =
     refused_on (close_line L) rows 4

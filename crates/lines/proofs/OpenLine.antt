@@ -6,11 +6,12 @@ use native.Mathlib.Omega.{arith}
 use mathlib.Core.Path.{◌≡◌, refl, ◌∙◌, ap, ap₂}
 use mathlib.Core.Bool.{Bool, true, false, not}
 use mathlib.Core.List.{List, [], ◌∷◌}
-use Rattle.std.specs.Prelude.{None, Some}
+use Rattle.std.specs.Prelude.{Option, None, Some, Result, Ok, Err}
 use lib.Dec.{ltb}
 use lib.ListN.{length, take, length-take}
 use Rattle.tree.specs.declared.Row.{Row}
 use Rattle.tree.specs.Tree.{row}
+use Rattle.tree.specs.declared.refusal.Refusal.{Refusal}
 use Rattle.tree.specs.Refusals.{period_out_of_range, no_room, open_refusal}
 use Rattle.tree.specs.Calls.{open_line, booked}
 use Rattle.tree.specs.Record.{path_at, no_rows, legal}
@@ -30,8 +31,6 @@ use Rattle.bridge.proofs.TreeOfRecord.{open_on_record}
 use Rattle.bridge.proofs.CallsOnRecords.{no_room_on, open_first_on, spot_found, may_open}
 use Rattle.bridge.proofs.SpotFacts.{divisor_positive, product_at_most, product_positive, start_below, row_left, rows_fit}
 use Rattle.bridge.proofs.BookedRecord.{split_path_at}
-use Rattle.lines.specs.declared.check.CheckedOpen.{CheckedOpen}
-use Rattle.lines.specs.declared.check.CheckedOpen.TheVariants.{Refused, Root, At}
 use Rattle.lines.specs.Bookable.{Bookable, BookableAt, SplittableIfSmaller, split_if_smaller}
 use Rattle.lines.specs.Checks.{Searched, OpenChecked}
 
@@ -56,26 +55,22 @@ open_again rows L p is_legal number inside there =
     open_refused_3 L p (tree_of_rows rows) number inside (open_on_record rows is_legal L (omega arith) ∙ ap not there)
 
 -- an open that passes the checks 1, 2 and 3 finds what the search finds
-pub checked_if_bookable : (rows : List ℕ) (L p : ℕ) → Bookable rows L p → (o : CheckedOpen) → Searched rows p o → OpenChecked rows L p o
+pub checked_if_bookable : (rows : List ℕ) (L p : ℕ) → Bookable rows L p → (o : Result (Option CandidateSpot) Refusal) → Searched rows p o → OpenChecked rows L p o
 unfolding Searched OpenChecked
-checked_if_bookable rows L p ready (Refused n) searched =
+checked_if_bookable rows L p ready (Err r) searched =
     let number = ready.number in
     let absent = open_on_record rows ready.is_legal L (omega arith) ∙ ap not ready.absent in
     open_last_check L p (tree_of_rows rows) number ready.inside absent ∙ rw (searched.1, searched.0)
-checked_if_bookable rows L p ready Root searched = (ready, searched)
-checked_if_bookable rows L p ready (At s) searched = record { bookable = ready; found_one = searched }
+checked_if_bookable rows L p ready (Ok None) searched = (ready, searched)
+checked_if_bookable rows L p ready (Ok (Some s)) searched = record { bookable = ready; found_one = searched }
 
 -- what was found, case by case
-module _ (rows : List ℕ) (L p : ℕ) {o : CheckedOpen} (checked : OpenChecked rows L p o) where
-  pub checked_refusal : {n : ℕ} → o ≡ Refused n → open_refusal L p (tree_of_rows rows) ≡ Some n
-  unfolding OpenChecked
-  checked_refusal told = rw told at checked
-
-  pub checked_root : o ≡ Root → Bookable rows L p × ClosedFrom rows 0
+module _ (rows : List ℕ) (L p : ℕ) {o : Option CandidateSpot} (checked : OpenChecked rows L p (Ok o)) where
+  pub checked_root : o ≡ None → Bookable rows L p × ClosedFrom rows 0
   unfolding OpenChecked
   checked_root told = rw told at checked
 
-  pub checked_spot : {s : CandidateSpot} → o ≡ At s → BookableAt rows L p (spot_in s)
+  pub checked_spot : {s : CandidateSpot} → o ≡ Some s → BookableAt rows L p (spot_in s)
   unfolding OpenChecked
   checked_spot told = rw told at checked
 
@@ -127,10 +122,8 @@ module _ (rows : List ℕ) (L p : ℕ) (s : Spot) (ready_at : BookableAt rows L 
   unfolding tree_of_rows
   spot_splittable =
       record {
-        line_below = found_spot.line_below;
         on_path = found_spot.level_below;
         splittable = λ small. record {
-          line_below_64 = found_spot.line_below;
           divisor_above_0 = divisor_positive (record { rows = rows }) L p s ready.is_legal long may_open_at found_spot;
           on_path = found_spot.level_below;
           row_left = λ M below through. record {
@@ -143,7 +136,7 @@ module _ (rows : List ℕ) (L p : ℕ) (s : Spot) (ready_at : BookableAt rows L 
   -- the line through the node is another one
   other_line : s.line ≡ L → ⊥
   other_line same =
-      let None : length (path_at rows s.line) ≡ 0 = ap (λ (M : ℕ). length (path_at rows M)) same ∙ ap length (no_rows_empty (path_at rows L) ready.absent) in
+      let no_row : length (path_at rows s.line) ≡ 0 = ap (λ (M : ℕ). length (path_at rows M)) same ∙ ap length (no_rows_empty (path_at rows L) ready.absent) in
       let below = found_spot.level_below in
       omega arith
 
@@ -174,8 +167,6 @@ module _ (rows : List ℕ) (L p : ℕ) (s : Spot) (ready_at : BookableAt rows L 
       let same = ap length way_after in
       let number = ready.number in
       record {
-        line_below_64 = omega arith;
-        from_below_64 = found_spot.line_below;
         another_line = other_line;
         on_path = omega arith;
         rows_left = rw (way_after, h) (rows_fit (record { rows = rows }) L p s ready.is_legal long may_open_at found_spot);

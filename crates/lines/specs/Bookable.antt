@@ -21,7 +21,6 @@ pub record BookableAt (rows : List ℕ) (L p : ℕ) (s : Spot) : Type 0 where
 
 -- a node that can be split by d where d is below its weight
 pub record SplittableIfSmaller (rows : List ℕ) (L l d : ℕ) : Type 0 where
-  pub line_below : L < 64
   pub on_path : l < length (path_at rows L)
   pub splittable : d < (row_of l (path_at rows L)).weight → Splittable rows L l d
 

@@ -4,6 +4,8 @@ pub mod JointTable
 pub mod Digits
 pub mod Divisors
 pub mod Searching
+-- The line of a number
+pub mod LineAsked
 -- Where a line stands, and who owns a round
 pub mod UnderEdge
 pub mod Put

@@ -46,7 +46,7 @@ one_edge_no_fit p m i n zero zero h =
     let d = divisor p m 1 in
     let room = h.room in
     let two = divisor_at_least_2 d (p / (m * d)) 1 (put 0 (line n) (λ e. nothing)) i room (one_edge_edges 1 (line n) (omega arith) refl) in
-    let None : d * (1 / d) ≡ 0 = ap (λ (k : ℕ). d * k) (div-eq_of_lt two) ∙ mul-zero d in
+    let no_row : d * (1 / d) ≡ 0 = ap (λ (k : ℕ). d * k) (div-eq_of_lt two) ∙ mul-zero d in
     let one = room.divides_weight in
     omega arith
 one_edge_no_fit p m i n zero (suc r) h = h

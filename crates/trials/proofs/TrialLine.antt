@@ -23,9 +23,9 @@ use Rattle.lines.proofs.OpenLine.{all_closed, found_spot, may_open_at, product_f
 use Rattle.trials.specs.Tryable.{Tryable}
 
 module _ (rows : List ℕ) (L p : ℕ) where
-  pub trial_refused : (n : ℕ) → open_refusal L p (tree_of_rows rows) ≡ Some n → refuses n ≡ trial_outcome L p (tree_of_rows rows)
+  pub trial_refused : {n : ℕ} → open_refusal L p (tree_of_rows rows) ≡ Some n → refuses n ≡ trial_outcome L p (tree_of_rows rows)
   unfolding trial_outcome gives_unless
-  trial_refused n refused = rw refused
+  trial_refused refused = rw refused
 
   not_refused_gives : open_refusal L p (tree_of_rows rows) ≡ None → gives (trial L p (tree_of_rows rows)) ≡ trial_outcome L p (tree_of_rows rows)
   unfolding trial_outcome gives_unless
@@ -47,7 +47,6 @@ module _ (rows : List ℕ) (L p : ℕ) where
     spot_tryable =
         let node_of_spot = spot_splittable rows L p s ready_at long in
         record {
-          line_below = node_of_spot.line_below;
           on_path = node_of_spot.on_path;
           start_in_range = omega (arith, start_fits rows L p s ready_at long);
           product_positive = product_not_zero rows L p s ready_at long;

@@ -5,7 +5,6 @@ use Rattle.tree.specs.Record.{path_at}
 use Rattle.paths.specs.Rules.{Spot}
 
 pub record Tryable (rows : List ℕ) (s : Spot) : Type 0 where
-  pub line_below : s.line < 64
   pub on_path : s.level < length (path_at rows s.line)
   pub start_in_range : s.offset + s.class * s.step ≤ 4095
   pub product_positive : 0 < s.step * s.divisor

@@ -5,4 +5,4 @@ use Rattle.bridge.proofs.CallsOnRecords.{close_on}
 use Rattle.lines.proofs.close_open_line.Goals as goal
 
 pub returns : goal.returns
-returns c = rw c.clear_line.ensures (close_on _ c.requires.0 c.whole.ensures _ (omega (arith, c.requires.1)) c.requires.2)
+returns c = rw c.clear_line.ensures (close_on _ c.requires.0 c.told-rows _ (omega (arith, c.args.line.below_64)) c.requires.1)

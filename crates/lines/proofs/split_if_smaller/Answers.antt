@@ -6,9 +6,7 @@ use Rattle.lines.proofs.SplitIfSmaller.{smaller_than_weight, split_smaller, spli
 use Rattle.lines.proofs.split_if_smaller.Goals as goal
 
 pub weight-requires : goal.weight-requires
-weight-requires c =
-    let ready = c.requires in
-    (ready.line_below, within_path _ _ ready.on_path)
+weight-requires c = within_path _ _ c.requires.on_path
 
 pub split_node-requires : goal.split_node-requires
 split_node-requires c =

@@ -1,13 +1,17 @@
 -- `trials::own_nodes` meets its contract, by the test of the quotient.
 -- Assumes nothing.
-use borrow.Author.Tests.{eq-eqb, ne_eqb}
+use Rattle.std.specs.Prelude.{if◌then◌else◌}
+use mathlib.Core.Bool.{Bool, true, false, not}
+use mathlib.Core.Path.{◌≡◌, refl, ◌∙◌}
+use lib.Dec.{eqb}
+use mir.Val.{bool_byte}
 use Rattle.paths.specs.Rules.{own_nodes}
 use Rattle.trials.proofs.own_nodes.Goals as goal
 
-pub returns-then-q-ne1 : goal.returns-then-q-ne1
-unfolding own_nodes
-returns-then-q-ne1 c = rw (ne_eqb _ 1 c.if-q-ne1.true)
+one_unless : (b : Bool) → bool_byte (not b) ≡ (if b then 0 else 1)
+one_unless true = refl
+one_unless false = refl
 
 pub returns : goal.returns
 unfolding own_nodes
-returns c = rw (eq-eqb _ 1 c.if-q-ne1.false)
+returns c = c.from.ensures ∙ one_unless (eqb c.args.q 1)

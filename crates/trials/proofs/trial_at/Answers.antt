@@ -8,30 +8,30 @@ use Rattle.paths.proofs.PathRows.{within_path}
 use Rattle.trials.proofs.TrialAt.{below_65536, divisor_positive, divisor_at_most, told_whole, told_split, classes_at_most, own_at_most}
 use Rattle.trials.proofs.trial_at.Goals as goal
 
-pub start_in-start-requires : goal.start_in-start-requires
-start_in-start-requires c = omega (arith, c.requires.start_in_range)
+pub start-start-requires : goal.start-start-requires
+start-start-requires c = omega (arith, c.requires.start_in_range)
 
-pub overflow_mul-step : goal.overflow_mul-step
-overflow_mul-step c = Fits-under w16 _ _ (below_65536 _ (omega (arith, c.requires.product_in_range))) tt
+pub overflow_mul-node : goal.overflow_mul-node
+overflow_mul-node c = Fits-under w16 _ _ (below_65536 _ (omega (arith, c.requires.product_in_range))) tt
 
 pub nonzero_div-period : goal.nonzero_div-period
 nonzero_div-period c = c.requires.product_positive
 
 pub weight-requires : goal.weight-requires
-weight-requires c = let ready = c.requires in (ready.line_below, within_path _ _ ready.on_path)
+weight-requires c = within_path _ _ c.requires.on_path
 
 pub returns-then-not-split : goal.returns-then-not-split
-returns-then-not-split c = told_whole _ _ _ c.requires.on_path c.weight.ensures c.start_in-start.ensures c.own_nodes-own.ensures (le-ltb _ _ c.if-not-split.true)
+returns-then-not-split c = told_whole _ _ _ c.requires.on_path c.weight.ensures c.start-start.ensures c.own_nodes-own.ensures (le-ltb _ _ c.if-not-split.true)
 
 pub classes_taken-requires : goal.classes_taken-requires
 classes_taken-requires c =
     let ready = c.requires in
     let positive = divisor_positive _ _ ready.product_positive in
     let most = divisor_at_most _ _ ready.product_positive in
-    (ready.line_below, within_path _ _ ready.on_path, omega arith, omega (arith, ready.product_in_range))
+    record { level = within_path _ _ ready.on_path; divisor = (omega arith, omega (arith, ready.product_in_range)) }
 
-pub overflow_add-added : goal.overflow_add-added
-overflow_add-added c =
+pub overflow_add-result : goal.overflow_add-result
+overflow_add-result c =
     let ready = c.requires in
     let groups = classes_at_most _ _ _ _ c.classes_taken.ensures in
     let own = own_at_most _ c.own_nodes-own.ensures in
@@ -39,4 +39,4 @@ overflow_add-added c =
     Fits-under w16 _ _ (below_65536 _ (omega (arith, ready.product_in_range))) tt
 
 pub returns : goal.returns
-returns c = told_split _ _ _ c.requires.on_path c.weight.ensures c.start_in-start.ensures c.own_nodes-own.ensures (lt-ltb _ _ c.if-not-split.false) c.classes_taken.ensures
+returns c = told_split _ _ _ c.requires.on_path c.weight.ensures c.start-start.ensures c.own_nodes-own.ensures (lt-ltb _ _ c.if-not-split.false) c.classes_taken.ensures
