@@ -1,6 +1,6 @@
 -- The rows of a record with one line's rows replaced (`set_line`, crate paths, specs/Rules.antt): that line's are the path's and then unused ones, the others' are as they were.
 -- Assumes nothing.
-use Prim.Native.Nat.{ℕ, ◌+◌, ◌<◌}
+use Prim.Native.Nat.{ℕ, ◌<◌}
 use native.Mathlib.Omega.{arith}
 use native.Mathlib.Decide.{ℕ_discrete, dec_lt}
 use mathlib.Core.Path.{◌≡◌, sym, ◌∙◌}

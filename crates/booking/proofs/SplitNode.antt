@@ -17,7 +17,7 @@ use Rattle.paths.proofs.PathRest.{path_length_at_most_11}
 use Rattle.paths.proofs.PathRows.{row_in_path, weight_in_path}
 use Rattle.paths.proofs.SameNode.{same_node_goes_on, same_node_by_edges, same_node_either}
 use Rattle.paths.proofs.Blocks.{row_at_by_block, row_at_of_block}
-use Rattle.paths.proofs.SplitLines.{split_lines_length, block_not_yet, block_split}
+use Rattle.paths.proofs.SplitLines.{block_not_yet, block_split}
 use Rattle.booking.specs.Writing.{SplittableOnLine, Splittable}
 use Rattle.booking.proofs.PathRows.{path_goes_on, path_same, rest_unused_same}
 use Rattle.booking.proofs.SplitPath.{split_row_above, split_row_at}

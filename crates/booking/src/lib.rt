@@ -38,9 +38,20 @@ pub fn split_line(rows: &mut [u16; 1408], line: Line, level: usize, d: u16)
     let node = paths::row(rows, line, level);
     let below = 22 * line.number + 2 * level + 2;
     rows.copy_within(below..22 * line.number + 20, below + 2);
-    let group = Row { weight: node.weight / d, edge: node.edge / d };
+    let group = Row {
+        weight: node.weight / d,
+        edge: node.edge / d,
+    };
     put_row(rows, line, level + 1, group);
-    put_row(rows, line, level, Row { weight: d, edge: node.edge % d });
+    put_row(
+        rows,
+        line,
+        level,
+        Row {
+            weight: d,
+            edge: node.edge % d,
+        },
+    );
 }
 
 // The node at a level of a line's path is split by d, on the path of each line that goes through it.
@@ -58,14 +69,7 @@ pub fn split_node(rows: &mut [u16; 1408], line: Line, level: usize, d: u16)
 
 // The path of a new line is written: another line's path down to a level, then a row with the weight of the node there and the class,
 // then a node of weight q with the line under its edge 0, unless q is 1.
-pub fn place_line(
-    rows: &mut [u16; 1408],
-    line: Line,
-    from: Line,
-    level: usize,
-    row: Row,
-    q: u16,
-)
+pub fn place_line(rows: &mut [u16; 1408], line: Line, from: Line, level: usize, row: Row, q: u16)
     requires { Placeable rows.old line.number from.number level row.weight row.edge q }
     ensures { rows.new ≡ set_line rows.old line.number (booked_path (take level (path_at rows.old from.number)) row.weight row.edge q) }
 {
@@ -83,5 +87,13 @@ pub fn place_first(rows: &mut [u16; 1408], line: Line, period: Period)
     ensures { rows.new ≡ set_line rows.old line.number (row period.0 0 ∷ []) }
 {
     clear_line(rows, line);
-    put_row(rows, line, 0, Row { weight: period.0, edge: 0 });
+    put_row(
+        rows,
+        line,
+        0,
+        Row {
+            weight: period.0,
+            edge: 0,
+        },
+    );
 }
