@@ -1,7 +1,6 @@
 pub mod RecordRows
 pub mod SetLine
 pub mod PathRows
-pub mod ClearLine
 pub mod SplitPath
 pub mod SplitNode
 pub mod PlacedPath

@@ -1,12 +1,11 @@
--- A record by its rows: what writing one row changes, and what copying numbers changes.
+-- What writing one row changes in a record.
 -- Assumes nothing.
-use Prim.Native.Nat.{ℕ, ◌+◌, ◌*◌, ◌<◌, ◌≤◌}
+use Prim.Native.Nat.{ℕ, ◌+◌, ◌*◌, ◌<◌}
 use native.Mathlib.Omega.{arith}
-use mathlib.Core.Path.{◌≡◌, ◌∙◌, ap, ap₂}
+use mathlib.Core.Path.{◌≡◌, ◌∙◌, ap₂}
 use mathlib.Core.List.{List}
 use lib.ListN.{length, get_or, set, length-set}
 use lib.Seq.{get_or-set_same, get_or-set_other}
-use Rattle.std.specs.List.{CopiedTo, SameBelow, SameFrom}
 use Rattle.tree.specs.declared.Row.{Row}
 use Rattle.tree.specs.Tree.{row}
 use Rattle.tree.specs.Record.{row_at}
@@ -47,26 +46,3 @@ module _ (rows : List ℕ) (L k : ℕ) (r : Row) where
 
   pub set_row_other_row : (j : ℕ) → (j ≡ k → ⊥) → row_at (set_row rows L k r) L j ≡ row_at rows L j
   set_row_other_row j other = row_kept L j (λ e. other (omega arith))
-
--- n numbers were copied to another place
-pub record Copied (rows new : List ℕ) (from to n : ℕ) : Type 0 where
-  pub there : CopiedTo rows new from to n
-  pub before : SameBelow rows new to
-  pub after : SameFrom rows new (to + n)
-
-module _ {rows new : List ℕ} {from to n : ℕ} (copied : Copied rows new from to n) where
-  pub row_copied : (M k L j : ℕ) → to ≤ 22 * L + 2 * j → 22 * L + 2 * j + 2 ≤ to + n → from + (22 * L + 2 * j) ≡ to + (22 * M + 2 * k) → row_at new L j ≡ row_at rows M k
-  unfolding row_at
-  row_copied M k L j first last moved =
-      ap₂
-      row
-      (copied.there (22 * L + 2 * j) 0 first (omega arith) ∙ ap (λ (i : ℕ). get_or rows i 0) (omega arith))
-      (copied.there (22 * L + 2 * j + 1) 0 (omega arith) (omega arith) ∙ ap (λ (i : ℕ). get_or rows i 0) (omega arith))
-
-  pub row_before_copy : (L j : ℕ) → 22 * L + 2 * j + 2 ≤ to → row_at new L j ≡ row_at rows L j
-  unfolding row_at
-  row_before_copy L j first = ap₂ row (copied.before (22 * L + 2 * j) 0 (omega arith)) (copied.before (22 * L + 2 * j + 1) 0 (omega arith))
-
-  pub row_after_copy : (L j : ℕ) → to + n ≤ 22 * L + 2 * j → row_at new L j ≡ row_at rows L j
-  unfolding row_at
-  row_after_copy L j last = ap₂ row (copied.after (22 * L + 2 * j) 0 last) (copied.after (22 * L + 2 * j + 1) 0 (omega arith))

@@ -30,28 +30,26 @@ pub fn clear_line(rows: &mut [u16; 1408], line: Line)
     rows[at..at + 22].fill(0);
 }
 
-// The node at a level of a line's path is split by d, on this path alone: the rows after it move down by one.
+// The node at a level of a line's path is split by d, on this path alone: the rows after it move down by one, from the last on.
 pub fn split_line(rows: &mut [u16; 1408], line: Line, level: usize, d: u16)
     requires { SplittableOnLine rows.old line.number level d }
     ensures { rows.new ≡ set_line rows.old line.number (split_path level d (path_at rows.old line.number)) }
 {
-    let node = paths::row(rows, line, level);
-    let below = 22 * line.number + 2 * level + 2;
-    rows.copy_within(below..22 * line.number + 20, below + 2);
+    let before = paths::row(rows, line, level);
+    for k in (level + 2..11).rev() {
+        let moved = paths::row(rows, line, k - 1);
+        put_row(rows, line, k, moved);
+    }
     let group = Row {
-        weight: node.weight / d,
-        edge: node.edge / d,
+        weight: before.weight / d,
+        edge: before.edge / d,
     };
     put_row(rows, line, level + 1, group);
-    put_row(
-        rows,
-        line,
-        level,
-        Row {
-            weight: d,
-            edge: node.edge % d,
-        },
-    );
+    let node = Row {
+        weight: d,
+        edge: before.edge % d,
+    };
+    put_row(rows, line, level, node);
 }
 
 // The node at a level of a line's path is split by d, on the path of each line that goes through it.
@@ -74,8 +72,9 @@ pub fn place_line(rows: &mut [u16; 1408], line: Line, from: Line, level: usize, 
     ensures { rows.new ≡ set_line rows.old line.number (booked_path (take level (path_at rows.old from.number)) row.weight row.edge q) }
 {
     clear_line(rows, line);
-    let start = 22 * from.number;
-    rows.copy_within(start..start + 2 * level, 22 * line.number);
+    for k in 0..level {
+        put_row(rows, line, k, paths::row(rows, from, k));
+    }
     put_row(rows, line, level, row);
     if q != 1 {
         put_row(rows, line, level + 1, Row { weight: q, edge: 0 });
@@ -87,13 +86,9 @@ pub fn place_first(rows: &mut [u16; 1408], line: Line, period: Period)
     ensures { rows.new ≡ set_line rows.old line.number (row period.0 0 ∷ []) }
 {
     clear_line(rows, line);
-    put_row(
-        rows,
-        line,
-        0,
-        Row {
-            weight: period.0,
-            edge: 0,
-        },
-    );
+    let root = Row {
+        weight: period.0,
+        edge: 0,
+    };
+    put_row(rows, line, 0, root);
 }

@@ -1,4 +1,5 @@
 use native.Mathlib.Omega.{arith}
+use Prim.Native.Nat.{◌<◌}
 use mathlib.Core.Path.{◌≡◌, refl, ◌∙◌}
 use Rattle.paths.specs.Rules.{split_lines}
 use Rattle.paths.proofs.PathRows.{within_path}
@@ -14,13 +15,16 @@ pub same_node-requires : goal.same_node-requires
 same_node-requires c = within_path _ _ c.requires.on_path
 
 pub split_line-requires : goal.split_line-requires
-split_line-requires c = through_splittable c.told-rows c.requires c.loop-number-test.true c.loop-number.invariant c.same_node.ensures c.if-same_node.true
+split_line-requires c =
+    let below : c.loop-number.number < 64 = omega arith in
+    through_splittable c.told-rows c.requires below c.loop-number.invariant c.same_node.ensures c.if-same_node.true
 
 pub loop-number-preserved : goal.loop-number-preserved
 loop-number-preserved c =
+    let below : c.loop-number.number < 64 = omega arith in
     elim c.if-same_node.branch [
-      | then-same_node w ↦ w.rows-is ∙ line_split c.told-rows c.requires c.loop-number-test.true c.loop-number.invariant c.same_node.ensures w.if-same_node.true w.split_line.ensures
-      | else-same_node w ↦ w.rows-is ∙ line_passed c.told-rows c.requires c.loop-number-test.true c.loop-number.invariant c.same_node.ensures w.if-same_node.false
+      | then-same_node w ↦ w.rows-is ∙ line_split c.told-rows c.requires below c.loop-number.invariant c.same_node.ensures w.if-same_node.true w.split_line.ensures
+      | else-same_node w ↦ w.rows-is ∙ line_passed c.told-rows c.requires below c.loop-number.invariant c.same_node.ensures w.if-same_node.false
     ]
 
 pub returns : goal.returns
