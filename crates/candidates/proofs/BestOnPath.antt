@@ -1,20 +1,19 @@
 -- The invariants of the searches along one path (`Reached`, specs/Answers.antt) and over the lines.
 -- Assumes nothing.
-use Prim.Native.Nat.{ℕ, ◌+◌, ◌*◌, ◌<◌, ◌≤◌, zero-le}
+use Prim.Native.Nat.{ℕ, ◌+◌, ◌*◌, ◌<◌, ◌≤◌}
 use native.Mathlib.Omega.{arith}
 use native.Mathlib.Nat.{le_refl}
 use native.Mathlib.Numerals.{add-one}
 use mathlib.Core.Path.{◌≡◌, refl, sym, ◌∙◌}
 use mathlib.Core.Bool.{true}
 use mathlib.Core.List.{List}
-use Rattle.std.specs.Prelude.{Option, None}
+use Rattle.std.specs.Prelude.{Option}
 use lib.ListN.{length}
 use Rattle.tree.specs.Record.{row_at, path_at, no_rows, legal}
 use Rattle.paths.specs.Rules.{Spot, spot_at, better_spot, best_on_path, best_of_lines}
 use Rattle.paths.proofs.PathNumbers.{Carried, carried_start, carried_row, carried_below, carried_small}
 use Rattle.paths.proofs.RowLaws.{no_rows_empty}
-use Rattle.candidates.specs.declared.Spot.{Spot as FoundSpot}
-use Rattle.candidates.specs.Answers.{spot_of, Reached}
+use Rattle.candidates.specs.Answers.{Reached}
 use Rattle.candidates.specs.Edges.{ClosedFrom}
 use Rattle.candidates.proofs.LinesEnd.{best_before_end}
 
@@ -60,24 +59,15 @@ module _ (rows : List ℕ) {p L l m r : ℕ} {best : Option Spot} (reached : Rea
 
 -- Over the lines
 
--- the best of the lines below n
-pub record BestOf (rows : List ℕ) (p : ℕ) (best : Option FoundSpot) (n : ℕ) : Type 0 where
-  pub within : n ≤ 64
-  pub best_is : spot_of best ≡ best_of_lines (path_at rows) p n
-
-pub best_of_none : (rows : List ℕ) (p : ℕ) → BestOf rows p None 0
-unfolding best_of_lines
-best_of_none rows p = record { within = zero-le; best_is = refl }
-
-module _ {rows : List ℕ} {p : ℕ} {best : Option FoundSpot} {n : ℕ} (best_of : BestOf rows p best n) where
-  pub best_of_more : n < 64 → {next : Option FoundSpot} → spot_of next ≡ best_on_path (path_at rows) p (spot_of best) n (length (path_at rows n)) → BestOf rows p next (n + 1)
+module _ (rows : List ℕ) (p n : ℕ) {best : Option Spot} (best_is : best ≡ best_of_lines (path_at rows) p n) where
+  pub best_of_more : {next : Option Spot} → next ≡ best_on_path (path_at rows) p best n (length (path_at rows n)) → next ≡ best_of_lines (path_at rows) p (n + 1)
   unfolding best_of_lines
-  best_of_more below better = record { within = omega arith; best_is = rw (add-one, ← best_of.best_is) better }
+  best_of_more better = rw (add-one, ← best_is) better
 
   -- a closed line offers nothing
-  pub best_of_closed : n < 64 → no_rows (path_at rows n) ≡ true → BestOf rows p best (n + 1)
+  pub best_of_closed : no_rows (path_at rows n) ≡ true → best ≡ best_of_lines (path_at rows) p (n + 1)
   unfolding best_on_path
-  best_of_closed below closed = best_of_more below (rw (no_rows_empty (path_at rows n) closed))
+  best_of_closed closed = best_of_more (rw (no_rows_empty (path_at rows n) closed))
 
-  pub best_of_all : {end : ℕ} → ClosedFrom rows end → end ≤ n → spot_of best ≡ best_of_lines (path_at rows) p 64
-  best_of_all from past = best_of.best_is ∙ best_before_end from p n past best_of.within ∙ sym (best_before_end from p 64 from.within (le_refl 64))
+  pub best_of_all : {end : ℕ} → ClosedFrom rows end → end ≤ n → n ≤ 64 → best ≡ best_of_lines (path_at rows) p 64
+  best_of_all from past within = best_is ∙ best_before_end from p n past within ∙ sym (best_before_end from p 64 from.within (le_refl 64))

@@ -36,11 +36,11 @@ pub record EdgesOfClass (marks : List ℕ) (d i e : ℕ) : Type 0 where
 pub edges_start : (marks : List ℕ) (d i : ℕ) → EdgesOfClass marks d i i
 edges_start marks d i = record { count = 0; edge_is = omega (arith, mul-zero d); unmarked = below_none (λ (j : ℕ). marked marks (i + d * j) ≡ false) }
 
-pub edges_more : {marks : List ℕ} {d i e : ℕ} → EdgesOfClass marks d i e → {b : Bool} → b ≡ marked marks e → b ≡ false → EdgesOfClass marks d i (e + d)
-edges_more {marks} {d} {i} edges answered absent = record {
+pub edges_more : {marks : List ℕ} {d i e : ℕ} → EdgesOfClass marks d i e → marked marks e ≡ false → EdgesOfClass marks d i (e + d)
+edges_more {marks} {d} {i} edges absent = record {
   count = edges.count + 1;
   edge_is = omega (arith, edges.edge_is, mul-add d edges.count 1, mul-one d);
-  unmarked = below_more (λ (j : ℕ). marked marks (i + d * j) ≡ false) edges.count edges.unmarked (rw (← edges.edge_is) (sym answered ∙ absent));
+  unmarked = below_more (λ (j : ℕ). marked marks (i + d * j) ≡ false) edges.count edges.unmarked (rw (← edges.edge_is) absent);
 }
 
 -- A class and its edges
@@ -60,8 +60,8 @@ module _ (rows : List ℕ) (L l : ℕ) {marks : List ℕ} (marks_present : Marks
     edge_class = rw (edges.edge_is, add-mul-mod_self_left i d edges.count) (mod-eq_of_lt in_range)
 
     -- an edge of the class is present: on to the next class
-    pub class_passed : {b : Bool} → b ≡ marked marks e → b ≡ true → Classes rows L l d (i + 1)
-    class_passed answered mark = so_far_more searched in_range (ap not (rw edge_class at (marked_takes d e (sym answered ∙ mark))))
+    pub class_passed : marked marks e ≡ true → Classes rows L l d (i + 1)
+    class_passed mark = so_far_more searched in_range (ap not (rw edge_class at (marked_takes d e mark)))
 
     -- all edges of the class below the weight were searched
     module _ (first : FirstThrough rows L l) (is_legal : legal rows ≡ true) (past : (row_of l (path_at rows L)).weight ≤ e) where

@@ -2,14 +2,13 @@
 -- Assumes nothing.
 use Prim.Native.Nat.{ℕ, ◌+◌, ◌<◌, ◌≤◌}
 use native.Mathlib.Omega.{arith}
-use native.Mathlib.Nat.{eq-or-lt_of_le}
 use mathlib.Core.Path.{◌≡◌, refl, sym, ◌∙◌, ap}
 use mathlib.Core.Logic.{inl, inr}
+use Rattle.std.proofs.lemmas.Bool.{cases_order}
 use mathlib.Core.Bool.{Bool, true, false, ◌&&◌, true≢false, or-false}
 use mathlib.Core.List.{List}
-use lib.Dec.{eqb, ltb}
+use lib.Dec.{eqb}
 use lib.ListN.{length, replicate}
-use borrow.Author.Tests.{ltb-true, ltb-false}
 use Rattle.tree.specs.declared.Row.{Row}
 use Rattle.tree.specs.Search.{some_below}
 use Rattle.tree.specs.Record.{row_at, path_at, legal}
@@ -33,18 +32,12 @@ module _ {rows : List ℕ} {L l : ℕ} (first : FirstThrough rows L l) {M : ℕ}
   earlier_line_apart earlier = same_node_comm l (path_at rows L) (path_at rows M) ∙ some_below_false L _ first.unseen M earlier
 
   module _ (is_legal : legal rows ≡ true) (below : M < 64) (through : same_node l (path_at rows L) (path_at rows M) ≡ true) where
-    not_earlier : L ≤ M
-    not_earlier = go (ltb M L) refl
-      where
-        go : (b : Bool) → ltb M L ≡ b → L ≤ M
-        go true h = absurd (true≢false (sym through ∙ earlier_line_apart (ltb-true M L h)))
-        go false h = ltb-false M L h
-
     one_weight : (row_of l (path_at rows M)).weight ≡ (row_of l (path_at rows L)).weight
     one_weight =
-        elim (eq-or-lt_of_le not_earlier) [
-          | inl same ↦ ap (λ (N : ℕ). (row_of l (path_at rows N)).weight) (sym same)
-          | inr later ↦ sym (lines_through_one rows is_legal l L M below later through).weight_is
+        elim (cases_order M L) [
+          | inl same ↦ rw same
+          | inr (inl earlier) ↦ absurd (true≢false (sym through ∙ earlier_line_apart earlier))
+          | inr (inr later) ↦ sym (lines_through_one rows is_legal l L M below later through).weight_is
         ]
 
     -- it takes an edge below the node's weight
@@ -74,19 +67,16 @@ marking_start {rows} {L} {l} first line_below = record {
   each = λ e. none_marked e ∙ sym (some_below_none L (takes_edge rows L l e) (λ M earlier. ap (λ (b : Bool). b && eqb (row_of l (path_at rows M)).edge e) (earlier_line_apart first earlier)));
 }
 
-module _ {rows : List ℕ} {L l : ℕ} {marks : List ℕ} {M : ℕ} (marking : Marking rows L l marks M) (below : M < 64) {b : Bool} (answered : b ≡ same_node l (path_at rows L) (path_at rows M)) where
-  pub marking_apart : b ≡ false → Marking rows L l marks (M + 1)
+module _ {rows : List ℕ} {L l : ℕ} {marks : List ℕ} {M : ℕ} (marking : Marking rows L l marks M) (below : M < 64) where
+  pub marking_apart : same_node l (path_at rows L) (path_at rows M) ≡ false → Marking rows L l marks (M + 1)
   marking_apart apart = record {
     within = omega arith;
     words = marking.words;
-    each = λ e. marking.each e ∙ sym (or-false _) ∙ rw (some_below_more M (takes_edge rows L l e), ← answered, apart);
+    each = λ e. marking.each e ∙ sym (or-false _) ∙ rw (some_below_more M (takes_edge rows L l e), apart);
   }
 
   -- e was read as the edge in row l of line M
-  module _ (through : b ≡ true) {e : ℕ} (read : e ≡ (row_at rows M l).edge) (first : FirstThrough rows L l) (is_legal : legal rows ≡ true) (line_below : L < 64) where
-    meets : same_node l (path_at rows L) (path_at rows M) ≡ true
-    meets = sym answered ∙ through
-
+  module _ (meets : same_node l (path_at rows L) (path_at rows M) ≡ true) {e : ℕ} (read : e ≡ (row_at rows M l).edge) (first : FirstThrough rows L l) (is_legal : legal rows ≡ true) (line_below : L < 64) where
     edge_is : (row_of l (path_at rows M)).edge ≡ e
     edge_is = ap (λ (r : Row). r.edge) (row_in_path rows M (same_node_goes_on l (path_at rows L) (path_at rows M) meets).1) ∙ sym read
 

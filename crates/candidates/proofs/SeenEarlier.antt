@@ -1,8 +1,8 @@
 -- Two paths through one node of a tree have the same rows above it and the same offer there, so a node is searched once.
 -- Assumes nothing.
 use Rattle.std.specs.Prelude.{if◌then◌else◌}
-use Prim.Native.Nat.{ℕ, zero, suc, ◌+◌, ◌<◌, ◌≤◌}
-use mathlib.Core.Path.{◌≡◌, refl, sym, ◌∙◌}
+use Prim.Native.Nat.{ℕ, zero, suc, ◌<◌}
+use mathlib.Core.Path.{◌≡◌, refl}
 use mathlib.Core.Bool.{Bool, true, false, false≢true, and-eq-true_iff}
 use mathlib.Core.List.{List, [], ◌∷◌}
 use Rattle.std.specs.Prelude.{Option, None, Some, option_map}
@@ -16,11 +16,10 @@ use Rattle.tree.specs.Tree.{product, sum}
 use Rattle.tree.specs.Opening.{divisor}
 use Rattle.tree.specs.Record.{path_at, parts, no_rows, together, legal}
 use Rattle.paths.specs.Rules.{Family, row_of, same_node, class_taken, class_on_path, Spot, place_of, spot_with, spot_at, better_spot}
-use Rattle.tree.proofs.Searching.{some_below_true, some_below_at}
+use Rattle.tree.proofs.Searching.{some_below_true}
 use Rattle.paths.proofs.LegalLines.{legal_together}
 use Rattle.candidates.specs.Answers.{seen_earlier, Reached}
-use Rattle.paths.proofs.AllBelow.{so_far_more}
-use Rattle.paths.proofs.NoneBelow.{NoneBelow, none_passes}
+use Rattle.paths.proofs.NoneBelow.{NoneBelow}
 use Rattle.paths.proofs.PathsPart.{parts_row}
 use Rattle.paths.proofs.SameNode.{same_node_goes_on, same_node_either}
 use Rattle.candidates.proofs.NothingBetter.{NoBetter, no_better_place, place_no_better, earlier_no_better}
@@ -106,16 +105,3 @@ seen_no_better rows p L l is_legal below reached seen =
 -- no line below k goes through the node at level l of line L's path
 abbrev pub Unseen : List ℕ → ℕ → ℕ → ℕ → Type 0
 Unseen rows L l k = NoneBelow L (λ M. same_node l (path_at rows M) (path_at rows L)) k
-
--- b answered whether line k does
-module _ (rows : List ℕ) (L l : ℕ) {k : ℕ} (unseen : Unseen rows L l k) (below : k < L) {b : Bool} (answered : b ≡ same_node l (path_at rows k) (path_at rows L)) where
-  pub unseen_more : b ≡ false → Unseen rows L l (k + 1)
-  unseen_more apart = so_far_more unseen below (sym answered ∙ apart)
-
-  pub seen_there : b ≡ true → seen_earlier (path_at rows) L l ≡ true
-  unfolding seen_earlier
-  seen_there meet = some_below_at L _ k below (sym answered ∙ meet)
-
-pub unseen_all : (rows : List ℕ) (L l : ℕ) {k : ℕ} → Unseen rows L l k → L ≤ k → seen_earlier (path_at rows) L l ≡ false
-unfolding seen_earlier
-unseen_all rows L l unseen past = none_passes unseen past

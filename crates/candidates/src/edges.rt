@@ -22,7 +22,7 @@ pub fn mark(marks: &mut [u64; 64], edge: usize)
     requires { edge < 4096 }
     ensures { marks.new ≡ with_mark marks.old edge }
 {
-    marks[edge / 64] = marks[edge / 64] | (1 << (edge % 64));
+    marks[edge / 64] |= 1 << (edge % 64);
 }
 
 // Marks the edges of a node that lines take: one pass over the lines, from the first whose path goes through the node up to the last open one.

@@ -80,7 +80,7 @@ pub fn free_class(lines: OpenLines<'_>, node: PathNode, d: u16) -> Option<u16>
 // What a node has to offer, where its step divides the period.
 fn spot_at(lines: OpenLines<'_>, node: PathNode, period: Period) -> Option<Spot>
     requires first { FirstThrough lines.record.rows.now node.line.number node.level }
-    requires divides { (0 < node.step) × (divides node.step period.0 ≡ true) }
+    requires step_divides { (0 < node.step) × (divides node.step period.0 ≡ true) }
     ensures { spot_of result ≡ spot_with (path_at lines.entry.record.rows.now) period.0 node.line.number node.level node.step node.offset }
 {
     let w = weight(lines.record.rows, node.line, node.level);

@@ -24,9 +24,9 @@ seen_earlier-requires c = within_path _ _ c.requires.on_path
 pub returns-then-seen_earlier : goal.returns-then-seen_earlier
 returns-then-seen_earlier c = sym (seen_no_better _ _ _ _ c.args.lines.record.is_legal c.args.node.line.below_64 c.requires.reached (sym c.if-seen_earlier.ensures))
 
-pub spot_at-requires-clause-divides : goal.spot_at-requires-clause-divides
+pub spot_at-requires-clause-step_divides : goal.spot_at-requires-clause-step_divides
 unfolding divides
-spot_at-requires-clause-divides c = (step_positive _ c.requires.reached c.args.lines.record.is_legal c.args.node.line.below_64, eq-eqb _ _ c.if-period-node-ne0.false)
+spot_at-requires-clause-step_divides c = (step_positive _ c.requires.reached c.args.lines.record.is_legal c.args.node.line.below_64, eq-eqb _ _ c.if-period-node-ne0.false)
 
 pub returns : goal.returns
 returns c = rw c.or.ensures (first_offer _ c.requires.reached (sym c.if-not-comes_first.ensures) _ c.spot_at.ensures)

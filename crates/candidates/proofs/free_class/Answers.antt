@@ -21,10 +21,10 @@ pub is_marked-requires : goal.is_marked-requires
 is_marked-requires c = omega (arith, c.loop-e-test.true, node_weight_small c.requires c.args.lines.record.is_legal c.args.node.line.below_64, weight_read _ _ c.requires.on_path c.weight-w.ensures)
 
 pub classes-preserved : goal.classes-preserved
-classes-preserved c = class_passed _ _ _ c.mark_present.ensures c.loop-e.invariant c.classes.invariant c.classes-test.true c.is_marked.ensures c.if-is_marked.true
+classes-preserved c = class_passed _ _ _ c.mark_present.ensures c.loop-e.invariant c.classes.invariant c.classes-test.true (sym c.if-is_marked.ensures)
 
 pub loop-e-preserved : goal.loop-e-preserved
-loop-e-preserved c = edges_more c.loop-e.invariant c.is_marked.ensures c.if-is_marked.false
+loop-e-preserved c = edges_more c.loop-e.invariant (sym c.if-is_marked.ensures)
 
 pub returns-in-classes : goal.returns-in-classes
 returns-in-classes c =
@@ -33,7 +33,7 @@ returns-in-classes c =
     elim c.loop-e-test.branch [
       | else-loop-e-test w ↦ free c.loop-e.e c.loop-e.invariant w.loop-e-test.false
       | then-loop-e-test+else-is_marked+else-e-step-w w ↦
-          free (c.loop-e.e + c.args.d) (edges_more c.loop-e.invariant w.is_marked.ensures w.if-is_marked.false) (omega arith)
+          free (c.loop-e.e + c.args.d) (edges_more c.loop-e.invariant (sym w.if-is_marked.ensures)) (omega arith)
     ]
 
 pub returns : goal.returns
