@@ -43,7 +43,7 @@ impl Spot {
     }
 }
 
-// The greatest common divisor, by Euclid's algorithm.
+// The greatest common divisor, by Euclid's algorithm. A `while`, since no index is counted: the remainder ends it.
 pub fn gcd(a: u16, b: u16) -> u16
     ensures { result ≡ gcd a b }
 {
