@@ -24,11 +24,11 @@ use Rattle.bridge.proofs.WalkOnPaths.{owner_is}
 
 -- A call that asks and is refused
 
-shown_refused : (L n : ℕ) (t : Tree) → line_refusal L t ≡ Some n → show_outcome L t ≡ refuses n
+pub shown_refused : (L n : ℕ) (t : Tree) → line_refusal L t ≡ Some n → show_outcome L t ≡ refuses n
 unfolding show_outcome gives_unless
 shown_refused L n t h = rw h
 
-turns_refused : (L a N n : ℕ) (t : Tree) → line_refusal L t ≡ Some n → turns_outcome L a N t ≡ refuses n
+pub turns_refused : (L a N n : ℕ) (t : Tree) → line_refusal L t ≡ Some n → turns_outcome L a N t ≡ refuses n
 unfolding turns_outcome gives_unless
 turns_refused L a N n t h = rw h
 

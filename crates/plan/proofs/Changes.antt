@@ -1,35 +1,27 @@
 -- The ways that open and close can go on a plan record: it is a tree, or it is none and counts as the empty plan.
 -- Assumes nothing.
-use Prim.Native.Nat.{ℕ, ◌≤◌}
+use Prim.Native.Nat.{ℕ}
 use native.Mathlib.Omega.{arith}
 use mathlib.Core.Path.{◌≡◌, refl, sym, ◌∙◌, ap}
 use mathlib.Core.Bool.{true, false}
 use mathlib.Core.List.{List}
-use Rattle.std.specs.Prelude.{Option, None, Some}
-use mathlib.Core.Logic.{⊎_elim}
-use lib.ListN.{replicate}
+use Rattle.std.specs.Prelude.{Option, None, Some, Ok, Err}
+use lib.ListN.{length, replicate, length-replicate}
 use Rattle.tree.specs.declared.Plan.{Plan}
-use Rattle.tree.specs.Search.{found}
-use Rattle.tree.specs.Tree.{Tree, nothing, path, is_open, path_of}
+use Rattle.tree.specs.Tree.{Tree, nothing, path, path_of}
 use Rattle.tree.specs.Shape.{Legal}
 use Rattle.tree.specs.Asking.{rows_11}
 use Rattle.tree.specs.Calls.{Call, open_line, close_line, Answer, booked, refused, refusal, reply, carried_out, answer_unless, tree_unless, answer, after}
 use Rattle.tree.specs.Record.{legal, tree_of, numbers, numbers_below, record_of}
-use Rattle.tree.proofs.Checks.{line_refused_4}
-use Rattle.paths.specs.declared.Found.TheVariants.{Nothing}
 use Rattle.bridge.specs.Rows.{tree_of_rows, rows_unless, rows_after, CarriedOut}
 use Rattle.bridge.proofs.TreeOfRecord.{tree_of_legal, tree_of_illegal}
 use Rattle.bridge.proofs.RecordRoundTrip.{record_legal, record_has_tree}
 use Rattle.bridge.proofs.CarriedLegal.{carried_out_legal}
-use Rattle.bridge.proofs.CallsOnRecords.{refused_on}
 use Rattle.tree.specs.declared.Start.{Start}
-use Rattle.lines.specs.declared.OpenAnswer.{OpenAnswer}
-use Rattle.lines.specs.declared.OpenAnswer.TheVariants.{Booked, Refused}
+use Rattle.tree.specs.declared.refusal.Refusal.{Refusal}
+use Rattle.tree.specs.Answered.{number_of}
 use Rattle.lines.specs.Answers.{open_answer}
-use Rattle.lines.proofs.CloseLine.{close_absent}
 use Rattle.plan.specs.Meets.{empty_plan, plan_unless, plan_after, Meets}
-use Rattle.plan.specs.Lookup.{line_found}
-use Rattle.plan.proofs.LineFound.{absent_or_no_tree}
 
 -- A record that is a tree
 
@@ -61,6 +53,9 @@ empty_rows rows h = λ i. record { rows = h i }
 pub empty_legal : legal empty_plan.rows ≡ true
 unfolding empty_plan Legal
 empty_legal = record_legal nothing tt
+
+pub empty_has_all : length empty_plan.rows ≡ 1408
+empty_has_all = sym (ap (λ (plan : Plan). length plan.rows) (empty_rows (replicate 1408 0) refl)) ∙ length-replicate {A = ℕ} 1408 0
 
 pub empty_tree : tree_of empty_plan ≡ nothing
 unfolding empty_plan Legal
@@ -115,26 +110,12 @@ module _ (rows : List ℕ) (not_legal : legal rows ≡ false) where
       by_refusal (Some m) e = refl
       by_refusal None e = absurd (reply_not_refused c (tree_of_rows rows) n (sym e))
 
-  close_none : (L : ℕ) → L ≤ 63 → CarriedOut (close_line L) rows rows (refused 4)
-  unfolding refusal is_open path found
-  close_none L number = refused_on (close_line L) rows 4 (line_refused_4 L (tree_of_rows rows) number (ap (is_open L) no_tree))
-
   -- an open that was made in the empty plan instead
-  module _ (L p : ℕ) (e : Plan) (after : List ℕ) (a : OpenAnswer) (empty : e ≡ empty_plan) (h : CarriedOut (open_line L p) e.rows after (open_answer a)) where
-    pub open_was_booked : (s : Start) → a ≡ Booked s → CarriedOut (open_line L p) rows after (open_answer a)
+  module _ (L p : ℕ) (e : Plan) (after : List ℕ) (empty : e ≡ empty_plan) where
+    pub open_was_booked : (s : Start) → CarriedOut (open_line L p) e.rows after (open_answer (Ok s)) → CarriedOut (open_line L p) rows after (open_answer (Ok s))
     unfolding open_answer
-    open_was_booked s told =
-        let made = rw (empty, told) at h in
-        rw told (booked_from_empty (open_line L p) s.0 after made)
+    open_was_booked s opened = booked_from_empty (open_line L p) s.0 after (rw empty at opened)
 
-    pub open_was_refused : (n : ℕ) → a ≡ Refused n → CarriedOut (open_line L p) rows rows (open_answer a)
+    pub open_was_refused : (r : Refusal) → CarriedOut (open_line L p) e.rows after (open_answer (Err r)) → CarriedOut (open_line L p) rows rows (open_answer (Err r))
     unfolding open_answer
-    open_was_refused n told =
-        let made = rw (empty, told) at h in
-        rw told (refused_from_empty (open_line L p) n after made)
-
--- A close whose lookup finds nothing
-
-pub close_not_found : (rows : List ℕ) (L : ℕ) → L ≤ 63 → line_found rows L ≡ Nothing → CarriedOut (close_line L) rows rows (refused 4)
-close_not_found rows L number h =
-    ⊎_elim (λ w. close_absent rows L w.0 number w.1) (λ illegal. close_none rows illegal L number) (absent_or_no_tree rows L h)
+    open_was_refused r opened = refused_from_empty (open_line L p) (number_of r) after (rw empty at opened)

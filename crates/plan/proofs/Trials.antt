@@ -4,17 +4,20 @@ use Prim.Native.Nat.{ℕ}
 use mathlib.Core.Path.{◌≡◌, ◌∙◌, ap}
 use mathlib.Core.Bool.{false}
 use mathlib.Core.List.{List}
+use Rattle.std.specs.Prelude.{Result}
 use Rattle.tree.specs.declared.Plan.{Plan}
+use Rattle.tree.specs.declared.Start.{Start}
+use Rattle.tree.specs.declared.refusal.Refusal.{Refusal}
+use Rattle.tree.specs.Answered.{outcome_of}
 use Rattle.tree.specs.Calls.{open_line, Answer, Outcome}
 use Rattle.tree.specs.Trial.{Trial, trial_outcome, BroughtAbout}
 use Rattle.tree.specs.Record.{legal, tree_of}
 use Rattle.tree.proofs.Trials.{open_brings_about}
 use Rattle.bridge.specs.Rows.{plan_of, tree_of_rows, CarriedOut}
 use Rattle.bridge.proofs.TreeOfRecord.{tree_of_legal}
-use Rattle.lines.specs.declared.OpenAnswer.{OpenAnswer}
 use Rattle.lines.specs.Answers.{open_answer}
-use Rattle.trials.specs.declared.TrialAnswer.{TrialAnswer}
-use Rattle.trials.specs.Answers.{trial_answer}
+use Rattle.trials.specs.declared.Trial.{Trial as Told}
+use Rattle.trials.specs.Answers.{trial_told}
 use Rattle.plan.specs.Meets.{empty_plan, Meets}
 use Rattle.plan.specs.Tried.{OpenedAsTried}
 use Rattle.plan.proofs.Changes.{carried_meets, plan_after_tree, same_tree}
@@ -34,8 +37,8 @@ pub open_rows_as_told : (L p : ℕ) (before after : List ℕ) (a : Answer) → C
 unfolding tree_of_rows
 open_rows_as_told L p before after a carried = open_as_told L p (plan_of before) a (plan_of after) (carried_meets (open_line L p) (plan_of before) after a carried)
 
-pub opened_as_tried : (L p : ℕ) (before : Plan) (told : TrialAnswer) (a : OpenAnswer) (after : Plan) →
-    trial_answer told ≡ trial_outcome L p (tree_of before) → Meets (open_line L p) before (open_answer a) after → OpenedAsTried L p before told a after
+pub opened_as_tried : (L p : ℕ) (before : Plan) (told : Result Told Refusal) (a : Result Start Refusal) (after : Plan) →
+    outcome_of trial_told told ≡ trial_outcome L p (tree_of before) → Meets (open_line L p) before (open_answer a) after → OpenedAsTried L p before told a after
 opened_as_tried L p before told a after told_is opened_is =
     record {
       told_is = told_is;

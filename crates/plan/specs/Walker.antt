@@ -1,13 +1,14 @@
 -- The walker (document 01, The walker; the rest by document 02, Ask 4): what a call on a place answers, and where it leaves the place.
 -- Assumes nothing.
-use Rattle.std.specs.Prelude.{ℕ, ◌+◌, ◌≡◌, Bool, ◌||◌, eqb, if◌then◌else◌}
-use Rattle.std.specs.Prelude.{Option, None, Some}
+use Rattle.std.specs.Prelude.{ℕ, ◌+◌, ◌≡◌, Bool, ◌||◌, Option, None, Some, Result, eqb, if◌then◌else◌}
 use Rattle.tree.specs.Tree.{Tree}
-use Rattle.tree.specs.Asking.{owner, OwnerOrRest, owned_by, idle_for, owner_or_rest}
+use Rattle.tree.specs.declared.refusal.Refusal.{Refusal}
+use Rattle.tree.specs.Asking.{owner, OwnerOrRest, owner_or_rest}
 use Rattle.tree.specs.Calls.{Outcome, gives, refuses}
+use Rattle.tree.specs.Answered.{outcome_of}
 use Rattle.plan.specs.declared.walker.WalkerPlace.{WalkerPlace}
-use Rattle.plan.specs.declared.walker.WalkAnswer.{WalkAnswer}
-use Rattle.plan.specs.declared.walker.WalkAnswer.TheVariants.{Line, Idle, Refused}
+use Rattle.plan.specs.declared.ask.OwnerAnswer.{OwnerAnswer}
+use Rattle.plan.specs.Ask.{owner_answer}
 
 -- (Refusals, 9) Either number is 2^64 - 1.
 unfoldable pub at_end : WalkerPlace → Bool
@@ -29,13 +30,7 @@ moved_on place t = record { next = place.next + 1; owned = count_after (owner pl
 unfoldable pub place_after : WalkerPlace → Tree → WalkerPlace
 place_after place t = if at_end place then place else moved_on place t
 
--- what the call answered
-unfoldable pub walk_answer : WalkAnswer → Outcome OwnerOrRest
-walk_answer (Line n) = gives (owned_by n)
-walk_answer (Idle g) = gives (idle_for g)
-walk_answer (Refused n) = refuses n
-
 -- a call on a place gave this answer and left this place: both are those of the rules
-pub record WalkedOn (place : WalkerPlace) (t : Tree) (a : WalkAnswer) (after : WalkerPlace) : Type 0 where
-  pub answer_is : walk_answer a ≡ walk_outcome place t
+pub record WalkedOn (place : WalkerPlace) (t : Tree) (a : Result OwnerAnswer Refusal) (after : WalkerPlace) : Type 0 where
+  pub answer_is : outcome_of owner_answer a ≡ walk_outcome place t
   pub place_is : after ≡ place_after place t

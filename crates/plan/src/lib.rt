@@ -4,6 +4,7 @@
 pub mod ask;
 pub mod change;
 mod lookup;
+pub mod record;
 pub mod sheet;
 pub mod trial;
 pub mod walker;

@@ -1,29 +1,22 @@
-// The beamtime sheet, on a record that is lent and with a plan by value. A record that is no tree is answered as the empty
-// plan, in which every round is idle.
+// The beamtime sheet. A record that is no tree is answered as the empty plan, in which every round is idle.
 ghost use Rattle.std.specs.Prelude.{◌≡◌};
 ghost use Rattle.tree.specs.Sheet.{sheet};
-ghost use Rattle.tree.specs.Record.{tree_of};
 ghost use Rattle.bridge.specs.Rows.{tree_of_rows};
 
-use tree::{Plan, Sheet};
+use crate::record::PlanRecord;
+use paths::tree_record::tree_record;
+use tree::Sheet;
 
-// The sheet of a record that is lent: of so many rounds that begin with `first`, the turns of each line, 0 for a closed
-// one, and the idle rounds. It never refuses. The rounds are whole numbers and may pass 2^64.
-pub fn sheet_rows(rows: &[u16; 1408], first: u64, rounds: u16) -> Sheet
-    ensures { result ≡ sheet first rounds (tree_of_rows rows.now) }
+// The sheet of so many rounds that begin with `first`: the turns of each line, 0 for a closed one, and the idle rounds. It
+// never refuses. The rounds are whole numbers and may pass 2^64.
+pub fn sheet<P: PlanRecord>(plan: &P, first: u64, rounds: u16) -> Sheet
+    ensures { result ≡ sheet first rounds (tree_of_rows (P.numbers plan.now)) }
 {
-    if !paths::legal(rows) {
+    let Some(tree) = tree_record(plan.rows()) else {
         return Sheet {
             turns: [0; 64],
             idle: rounds,
         };
-    }
-    asking::sheet::sheet_of(rows, first, rounds)
-}
-
-// The same with a plan by value.
-pub fn sheet(plan: Plan, first: u64, rounds: u16) -> Sheet
-    ensures { result ≡ sheet first rounds (tree_of plan) }
-{
-    sheet_rows(&plan.rows, first, rounds)
+    };
+    asking::sheet::sheet_of(tree, first, rounds)
 }

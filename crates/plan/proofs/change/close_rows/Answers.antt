@@ -1,27 +1,25 @@
--- `plan::change::close_rows` meets its contract: the line is above 63, the lookup finds nothing, or the line goes.
+-- `plan::change::close_rows` meets its contract: the lookup refuses, or the line goes.
 -- Assumes nothing.
-use native.Mathlib.Omega.{arith}
-use mathlib.Core.Path.{sym, ◌∙◌}
-use Rattle.paths.proofs.PathLength.{lookup_at}
+use mathlib.Core.Path.{sym}
+use Rattle.std.proofs.lemmas.Result.{err_from_is_err_and}
+use Rattle.tree.specs.Calls.{refusal}
+use Rattle.bridge.proofs.CallsOnRecords.{refused_on}
 use Rattle.lines.specs.Answers.{close_answer}
-use Rattle.lines.proofs.CloseLine.{close_above}
-use Rattle.plan.proofs.LineFound.{found_in_tree}
-use Rattle.plan.proofs.Changes.{close_not_found}
+use Rattle.plan.specs.Lookup.{LookedUp}
 use Rattle.plan.proofs.change.close_rows.Goals as goal
 
-pub returns-then-line-gt63 : goal.returns-then-line-gt63
-unfolding close_answer
-returns-then-line-gt63 c = close_above _ _ c.if-line-gt63.true
-
-pub returns-in_default : goal.returns-in_default
-unfolding close_answer
-returns-in_default c = close_not_found _ _ c.if-line-gt63.false (sym c.find_line-found.ensures ∙ c.in_default.is)
+pub returns-in_err-line : goal.returns-in_err-line
+unfolding close_answer refusal LookedUp
+returns-in_err-line c =
+    let told = err_from_is_err_and c.from_residual.result c.from_residual.ensures.1 in
+    rw (told.1, told.2) (refused_on _ _ _ c.in_err-line.ensures)
 
 pub close_open_line-requires : goal.close_open_line-requires
+unfolding LookedUp
 close_open_line-requires c =
-    let in_tree = found_in_tree _ _ _ (sym c.find_line-found.ensures ∙ c.in-At.is) in
-    (in_tree.0, omega (arith, c.if-line-gt63.false), lookup_at _ _ in_tree.1)
+    let found = c.in_ok-line.ensures in
+    (found.1.is_legal, rw found.0 found.1.has_rows)
 
 pub returns : goal.returns
-unfolding close_answer
-returns c = c.close_open_line.ensures
+unfolding close_answer LookedUp
+returns c = rw (sym c.in_ok-line.ensures.0) c.close_open_line.ensures

@@ -1,8 +1,25 @@
--- `plan::trial::trial` meets its contract, by that of `trial_rows`.
+-- `plan::trial::trial` meets its contract: the record is a tree, or it is none and the trial is made in the empty plan, which has the same tree.
 -- Assumes nothing.
-use Rattle.bridge.specs.Rows.{tree_of_rows}
+use mathlib.Core.Path.{sym, ◌∙◌, ap}
+use lib.ListN.{length}
+use Rattle.tree.specs.declared.Plan.{Plan}
+use Rattle.tree.specs.Record.{legal}
+use Rattle.paths.specs.Checked.{CheckedRecord}
+use Rattle.plan.proofs.Changes.{empty_legal, empty_has_all}
+use Rattle.plan.proofs.Trials.{trial_in_empty}
 use Rattle.plan.proofs.trial.trial.Goals as goal
 
+pub returns-in-Some : goal.returns-in-Some
+unfolding CheckedRecord
+returns-in-Some g c = rw (sym c.rows.ensures, sym c.in-Some.ensures) c.trial_line.ensures
+
+pub invariant_of-trial_line : goal.invariant_of-trial_line
+invariant_of-trial_line g c =
+    record {
+      is_legal = ap (λ (plan : Plan). legal plan.rows) c.empty-fresh.ensures ∙ empty_legal;
+      has_all = ap (λ (plan : Plan). length plan.rows) c.empty-fresh.ensures ∙ empty_has_all;
+    }
+
 pub returns : goal.returns
-unfolding tree_of_rows
-returns c = c.trial_rows.ensures
+unfolding CheckedRecord
+returns g c = rw (sym c.rows.ensures) (trial_in_empty _ _ _ _ _ c.in_default.ensures c.empty-fresh.ensures c.trial_line-2.ensures)
