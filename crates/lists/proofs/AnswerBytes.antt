@@ -2,16 +2,12 @@
 -- Assumes nothing.
 use Prim.Native.Nat.{ℕ, ◌/◌, ◌%◌}
 use native.Mathlib.Nat.{div-one}
-use mathlib.Core.Path.{◌≡◌, sym, ◌∙◌, ap}
+use mathlib.Core.Path.{◌≡◌}
+use mathlib.Core.List.{[], ◌∷◌}
 use Rattle.tree.specs.Calls.{Answer}
 use Rattle.orders.specs.Field.{field}
 use Rattle.lists.specs.Lists.{answer_word, high_byte, low_byte}
 
-module _ (word : ℕ) (a : Answer) (is_word : word ≡ answer_word a) where
-  pub high_is : word / 256 % 256 ≡ high_byte a
-  unfolding high_byte field
-  high_is = ap (λ (x : ℕ). x / 256 % 256) is_word
-
-  pub low_is : word % 256 ≡ low_byte a
-  unfolding low_byte field
-  low_is = ap (λ (x : ℕ). x % 256) (is_word ∙ sym (div-one (answer_word a)))
+pub bytes_of_word : (word : ℕ) (a : Answer) → word ≡ answer_word a → (word / 256 % 256 ∷ word % 256 ∷ []) ≡ (high_byte a ∷ low_byte a ∷ [])
+unfolding high_byte low_byte field
+bytes_of_word word a is_word = rw (is_word, div-one (answer_word a))

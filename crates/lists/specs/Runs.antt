@@ -1,28 +1,27 @@
 -- What the functions of this crate promise of a plan record, the order bytes and the lent answer bytes.
 -- Assumes nothing.
 use Rattle.std.specs.Prelude.{ℕ, ◌*◌, ◌≤◌, ◌≡◌, Bool, true, List, ◌++◌, length, drop, if◌then◌else◌}
-use Rattle.std.specs.Prelude.{Option, None, Some}
+use Rattle.std.specs.Prelude.{Option, None, Some, Result, Ok, Err}
 use Rattle.tree.specs.declared.Plan.{Plan}
+use Rattle.tree.specs.declared.Start.{Start}
+use Rattle.tree.specs.declared.refusal.Refusal.{Refusal}
 use Rattle.tree.specs.Tree.{Tree}
 use Rattle.tree.specs.Calls.{Answer, booked, done, refused}
+use Rattle.tree.specs.Answered.{number_of}
 use Rattle.tree.specs.Record.{legal, tree_of, record_of}
 use Rattle.bridge.specs.Rows.{tree_of_rows, LegalWith}
-use Rattle.lists.specs.declared.OrderAnswer.{OrderAnswer}
-use Rattle.lists.specs.declared.OrderAnswer.TheVariants.{Booked, Done, Refused}
-use Rattle.lists.specs.declared.ListAnswer.{ListAnswer}
-use Rattle.lists.specs.declared.ListAnswer.TheVariants.{Done as ListDone, Refused as ListRefused}
 use Rattle.lists.specs.Lists.{order_answer, order_after, orders_of, list_answers, list_after, answer_bytes, some_carried, list_refusal}
 
--- document 01's answer for each case of the code's enums
-unfoldable pub answer_in : OrderAnswer → Answer
-answer_in (Booked s) = booked s.0
-answer_in Done = done
-answer_in (Refused n) = refused n
+-- document 01's answer for what running an order gives: the start of a line that was opened, nothing of one that was closed, or a refusal
+unfoldable pub answer_in : Result (Option Start) Refusal → Answer
+answer_in (Ok (Some s)) = booked s.0
+answer_in (Ok None) = done
+answer_in (Err r) = refused (number_of r)
 
 -- the number with which a list is refused, if it is
-unfoldable pub refusal_in : ListAnswer → Option ℕ
-refusal_in ListDone = None
-refusal_in (ListRefused n) = Some n
+unfoldable pub refusal_in : Result Unit Refusal → Option ℕ
+refusal_in (Ok u) = None
+refusal_in (Err r) = Some (number_of r)
 
 -- one order ran on a legal record: it gave the order's answer and left the record of the order's tree
 pub record OrderRan (n : ℕ) (before after : List ℕ) (a : Answer) : Type 0 where

@@ -1,22 +1,21 @@
 -- `lists::run_list_rows` meets its contract: the list is refused, or it ran.
 -- Assumes nothing.
-use mathlib.Core.Path.{sym, ◌∙◌, ap}
+use mathlib.Core.Path.{sym}
+use Rattle.std.proofs.lemmas.Result.{err_from_is_err_and}
 use Rattle.lists.specs.Runs.{refusal_in}
 use Rattle.lists.proofs.WholeList.{list_refused, list_run}
 use Rattle.lists.proofs.run_list_rows.Goals as goal
 
+pub returns-in_err-check_lengths : goal.returns-in_err-check_lengths
+unfolding refusal_in
+returns-in_err-check_lengths c =
+    let told = err_from_is_err_and c.from_residual.result c.from_residual.ensures.1 in
+    rw (told.1, told.2) (list_refused _ _ _ _ c.in_err-check_lengths.ensures)
+
 pub run_checked-requires : goal.run_checked-requires
 unfolding refusal_in
-run_checked-requires c = sym c.check_lengths-answer.ensures ∙ ap refusal_in c.in-Done.is
+run_checked-requires c = sym c.in_ok-check_lengths.ensures
 
-pub returns-in-Done : goal.returns-in-Done
+pub returns : goal.returns
 unfolding refusal_in
-returns-in-Done c =
-    let is-done = ap refusal_in c.in-Done.is in
-    rw is-done (list_run _ _ _ _ _ (sym is-done ∙ c.check_lengths-answer.ensures) c.run_checked.ensures)
-
-pub returns-in_default : goal.returns-in_default
-unfolding refusal_in
-returns-in_default c =
-    let is-refused = ap refusal_in c.in_default.is in
-    rw is-refused (list_refused _ _ _ _ (sym is-refused ∙ c.check_lengths-answer.ensures))
+returns c = list_run _ _ _ _ _ c.in_ok-check_lengths.ensures c.run_checked.ensures

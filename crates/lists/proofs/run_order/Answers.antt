@@ -1,19 +1,39 @@
--- `lists::run_order` meets its contract: one law for each way that reading the order can go.
+-- `lists::run_order` meets its contract: the order cannot be read, or its call is refused or carried out.
 -- Assumes nothing.
-use mathlib.Core.Path.{sym, ◌∙◌, ap}
-use Rattle.orders.specs.Reading.{read_as}
+use mathlib.Core.Path.{sym, ◌∙◌}
+use Rattle.std.proofs.lemmas.Result.{err_from_is_err_and}
+use Rattle.tree.specs.Answered.{outcome_of}
+use Rattle.tree.specs.Calls.{open_line, close_line}
+use Rattle.orders.specs.Reading.{call_told}
+use Rattle.lines.specs.Answers.{open_answer, close_answer}
 use Rattle.lists.specs.Runs.{answer_in}
 use Rattle.lists.proofs.OneOrder.{order_read, order_unread}
 use Rattle.lists.proofs.run_order.Goals as goal
 
-pub returns-in-Open : goal.returns-in-Open
-unfolding read_as
-returns-in-Open c = order_read _ _ _ _ _ c.requires (sym c.read-order.ensures ∙ ap read_as c.in-Open.is) c.run_open.ensures
+pub returns-in_err-line : goal.returns-in_err-line
+unfolding outcome_of answer_in
+returns-in_err-line c =
+    let told = err_from_is_err_and c.from_residual.result c.from_residual.ensures.1 in
+    rw (told.1, told.2) (order_unread _ _ _ c.requires (sym c.in_err-line.ensures))
 
-pub returns-in-Close : goal.returns-in-Close
-unfolding read_as
-returns-in-Close c = order_read _ _ _ _ _ c.requires (sym c.read-order.ensures ∙ ap read_as c.in-Close.is) c.run_close.ensures
+pub returns-in_err-open_line-in-Open : goal.returns-in_err-open_line-in-Open
+unfolding outcome_of call_told open_answer answer_in
+returns-in_err-open_line-in-Open c =
+    let told = err_from_is_err_and c.from_residual-in_err-open_line-in-Open.result c.from_residual-in_err-open_line-in-Open.ensures.1 in
+    rw (told.1, told.2) (order_read _ (open_line _ _) _ _ _ c.requires (sym c.in_ok-line.ensures ∙ rw c.in-Open.is) c.in_err-open_line-in-Open.ensures)
 
-pub returns-in-Refused : goal.returns-in-Refused
-unfolding read_as answer_in
-returns-in-Refused c = order_unread _ _ _ c.requires (sym c.read-order.ensures ∙ ap read_as c.in-Refused.is)
+pub returns-in_ok-open_line-in-Open : goal.returns-in_ok-open_line-in-Open
+unfolding outcome_of call_told open_answer answer_in
+returns-in_ok-open_line-in-Open c =
+    order_read _ (open_line _ _) _ _ _ c.requires (sym c.in_ok-line.ensures ∙ rw c.in-Open.is) c.in_ok-open_line-in-Open.ensures
+
+pub returns-in_err-close_line-in-Close : goal.returns-in_err-close_line-in-Close
+unfolding outcome_of call_told close_answer answer_in
+returns-in_err-close_line-in-Close c =
+    let told = err_from_is_err_and c.from_residual-in_err-close_line-in-Close.result c.from_residual-in_err-close_line-in-Close.ensures.1 in
+    rw (told.1, told.2) (order_read _ (close_line _) _ _ _ c.requires (sym c.in_ok-line.ensures ∙ rw c.in-Close.is) c.in_err-close_line-in-Close.ensures)
+
+pub returns-in_ok-close_line-in-Close : goal.returns-in_ok-close_line-in-Close
+unfolding outcome_of call_told close_answer answer_in
+returns-in_ok-close_line-in-Close c =
+    order_read _ (close_line _) _ _ _ c.requires (sym c.in_ok-line.ensures ∙ rw c.in-Close.is) c.in_ok-close_line-in-Close.ensures
