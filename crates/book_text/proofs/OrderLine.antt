@@ -12,7 +12,7 @@ use Rattle.orders.proofs.FieldLaws.{field_below}
 use Rattle.lists.specs.Lists.{result_field, start, answer_word, high_byte, low_byte}
 use Rattle.book_text.specs.BookText.{decimal, text_line, start_word, order_line}
 use Rattle.book_text.specs.Writing.{line_printed}
-use Rattle.book_text.proofs.Decimal.{one_digit_length, two_digits_length, four_digits_length, five_digits_length}
+use Rattle.book_text.proofs.Decimal.{decimal_length}
 use Rattle.book_text.proofs.Printable.{Printable}
 
 -- The parts of the two bytes
@@ -43,17 +43,17 @@ line_from_bytes number n high low a printable high_is low_is =
 
 start_word_length : (k : ℕ) (a : Answer) → Printable k a → length (start_word a) ≤ 4
 unfolding start_word start
-start_word_length k (booked s) printable = four_digits_length s (omega arith)
+start_word_length k (booked s) printable = decimal_length 4 s (omega arith) (omega arith) (omega arith)
 start_word_length k done printable = omega arith
 start_word_length k (refused n) printable = omega arith
 
 pub order_line_length : (number n : ℕ) (a : Answer) → number < 100000 → Printable (kind n) a → length (order_line number n a) ≤ 23
 unfolding order_line text_line kind line period
 order_line_length number n a few printable =
-    let number_digits = five_digits_length number few in
-    let kind_digits = one_digit_length (kind n) (omega (arith, field_below 2 22 n)) in
-    let line_digits = two_digits_length (line n) (omega (arith, field_below 6 16 n)) in
-    let period_digits = four_digits_length (period n) (omega (arith, field_below 12 4 n)) in
-    let result_digits = one_digit_length (result_field a) printable.result_small in
+    let number_digits = decimal_length 5 number (omega arith) (omega arith) (omega arith) in
+    let kind_digits = decimal_length 1 (kind n) (omega arith) (omega (arith, field_below 2 22 n)) (omega (arith, field_below 2 22 n)) in
+    let line_digits = decimal_length 2 (line n) (omega arith) (omega (arith, field_below 6 16 n)) (omega (arith, field_below 6 16 n)) in
+    let period_digits = decimal_length 4 (period n) (omega arith) (omega (arith, field_below 12 4 n)) (omega (arith, field_below 12 4 n)) in
+    let result_digits = decimal_length 1 (result_field a) (omega arith) (omega (arith, printable.result_small)) (omega (arith, printable.result_small)) in
     let start_digits = start_word_length (kind n) a printable in
     simp length-append (omega arith)

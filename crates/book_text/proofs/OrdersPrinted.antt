@@ -1,23 +1,33 @@
 -- The loop over the orders. Its invariant (`Printing`): what was written and the lines of the orders that are left make up all lines.
 -- Assumes nothing.
-use Prim.Native.Nat.{ℕ, ◌+◌, ◌*◌, ◌/◌, ◌%◌, ◌<◌, ◌≤◌}
+use Prim.Native.Nat.{ℕ, zero, suc, ◌+◌, ◌*◌, ◌/◌, ◌%◌, ◌<◌, ◌≤◌}
 use native.Mathlib.Omega.{arith}
 use native.Mathlib.Numerals.{add-one}
+use Rattle.std.proofs.Common.{add-zero}
 use mathlib.Core.Path.{◌≡◌, refl, sym, ◌∙◌, ap, ap₂}
 use mathlib.Core.List.{List, [], ◌∷◌, ◌++◌, append-nil, append_assoc}
 use lib.ListN.{length, get_or, take, drop, length-append, drop_of_length-le}
 use lib.Seq.{drop-drop, get_or-drop, get_or-take}
+use Rattle.std.specs.Simd.{first_chunks}
 use Rattle.tree.specs.Tree.{nothing}
 use Rattle.tree.specs.Shape.{Legal}
 use Rattle.tree.specs.Calls.{Answer}
-use Rattle.orders.specs.Order.{order_of, kind, fields_of}
+use Rattle.orders.specs.Order.{order_of, kind}
 use Rattle.lists.specs.Lists.{orders_of, list_answers, high_byte, low_byte, answer_bytes}
 use Rattle.lists.proofs.OrdersInTurn.{next_order}
+use Rattle.book_text.specs.declared.text.Text.{Text}
 use Rattle.book_text.specs.BookText.{order_line, order_lines}
-use Rattle.book_text.specs.Writing.{Room, Appended, line_printed, Answered}
-use Rattle.book_text.proofs.Appending.{written_length, room_rest, appended_nothing, appended_both}
+use Rattle.book_text.specs.Writing.{room, Appended, order_printed, Answered}
+use Rattle.book_text.proofs.Appending.{appended_nothing, appended_both}
 use Rattle.book_text.proofs.Printable.{Printable, AllPrintable, all_printable}
-use Rattle.book_text.proofs.OrderLine.{line_from_bytes, order_line_length}
+use Rattle.book_text.proofs.OrderLine.{line_from_bytes}
+
+-- byte i of piece k, of the pieces that have so many bytes each
+byte_of_piece : (size count : ℕ) (bytes : List ℕ) (k i : ℕ) → k < count → i < size → get_or (get_or (first_chunks size count bytes) k []) i 0 ≡ get_or bytes (size * k + i) 0
+byte_of_piece size zero bytes k i inside small = absurd (omega arith)
+byte_of_piece size (suc count) bytes zero i inside small = get_or-take size bytes i 0 small ∙ ap (λ (n : ℕ). get_or bytes n 0) (omega arith)
+byte_of_piece size (suc count) bytes (suc k) i inside small =
+    byte_of_piece size count (drop size bytes) k i (omega arith) small ∙ get_or-drop size bytes (size * k + i) 0 ∙ ap (λ (n : ℕ). get_or bytes n 0) (omega arith)
 
 -- order k of the bytes, and the orders from k on
 abbrev order_at : List ℕ → ℕ → ℕ
@@ -26,76 +36,56 @@ order_at bytes k = order_of (record { 0 = get_or bytes (3 * k) 0; 1 = get_or byt
 abbrev orders_from : List ℕ → ℕ → List ℕ
 orders_from bytes k = orders_of (drop (3 * k) bytes)
 
--- the line of order k, from the bytes
-abbrev line_at : List ℕ → List ℕ → ℕ → List ℕ
-line_at orders answers k =
-    line_printed (k + 1) (fields_of (order_at orders k)) (get_or answers (2 * k) 0 / 16) (get_or answers (2 * k) 0 % 16 * 256 + get_or answers (2 * k + 1) 0)
-
 -- all lines
 abbrev all_lines : List ℕ → List ℕ
 all_lines orders = order_lines 1 (orders_of orders) (list_answers nothing (orders_of orders))
 
 -- The first of the answers that are left
 
-pub record Next (n : ℕ) (ns : List ℕ) (left : List Answer) : Type 0 where
-  pub first : Answer
-  pub rest : List Answer
-  pub left_is : left ≡ first ∷ rest
-  pub printable : Printable (kind n) first
-  pub rest_printable : AllPrintable ns rest
+record Next (n : ℕ) (ns : List ℕ) (left : List Answer) : Type 0 where
+  first : Answer
+  rest : List Answer
+  left_is : left ≡ first ∷ rest
+  printable : Printable (kind n) first
+  rest_printable : AllPrintable ns rest
 
 next_answer : (n : ℕ) (ns : List ℕ) (left : List Answer) → AllPrintable (n ∷ ns) left → Next n ns left
 unfolding AllPrintable
 next_answer n ns [] printable = absurd printable
 next_answer n ns (a ∷ rest) printable = record { first = a; rest = rest; left_is = refl; printable = printable.0; rest_printable = printable.1 }
 
-pub record Printing (text₀ : List ℕ) (at : ℕ) (orders answers : List ℕ) (count : ℕ) (text : List ℕ) (end k : ℕ) : Type 0 where
-  pub ready : Answered orders answers text₀ at
-  pub counted : count ≡ length orders / 3
-  pub at_most : k ≤ count
+pub record Printing (start : Text) (orders answers : List ℕ) (text : Text) (k : ℕ) : Type 0 where
   pub lines : List ℕ
-  pub so_far : Appended text₀ at lines text end
-  pub not_long : length lines ≤ 23 * k
+  pub so_far : Appended start lines text
   pub left : List Answer
-  pub left_bytes : drop (2 * k) (take (2 * count) answers) ≡ answer_bytes left
+  pub left_bytes : drop (2 * k) (take (2 * (length orders / 3)) answers) ≡ answer_bytes left
   pub left_printable : AllPrintable (orders_from orders k) left
   pub all_same : lines ++ order_lines (k + 1) (orders_from orders k) left ≡ all_lines orders
 
-module _ (text₀ : List ℕ) (at : ℕ) (orders answers : List ℕ) (count : ℕ) where
-  pub printing_none : Answered orders answers text₀ at → count ≡ length orders / 3 → Printing text₀ at orders answers count text₀ at 0
+module _ (start : Text) (orders answers : List ℕ) (ready : Answered orders answers) where
+  pub printing_none : Printing start orders answers start 0
   unfolding Legal
-  printing_none ready counted =
+  printing_none =
       record {
-        ready = ready;
-        counted = counted;
-        at_most = omega arith;
         lines = [];
-        so_far = appended_nothing text₀ at at refl;
-        not_long = omega arith;
+        so_far = appended_nothing start;
         left = list_answers nothing (orders_of orders);
-        left_bytes = ap (λ (n : ℕ). take (2 * n) answers) counted ∙ ready.answers_are;
+        left_bytes = ready.answers_are;
         left_printable = all_printable nothing tt (orders_of orders);
         all_same = refl;
       }
 
-  module _ (text : List ℕ) (end k : ℕ) (printing : Printing text₀ at orders answers count text end k) where
-    lines_room : Room text₀ at printing.lines
-    lines_room =
-        record { fits = omega (arith, printing.ready.has_room, printing.counted, printing.at_most, printing.not_long) }
-
-    pub same_length : length text ≡ length text₀
-    same_length = rw (printing.so_far.text_is, written_length text₀ at printing.lines lines_room)
-
-    pub printing_all : count ≤ k → Appended text₀ at (all_lines orders) text end
+  module _ (text : Text) (k : ℕ) (printing : Printing start orders answers text k) where
+    pub printing_all : length orders / 3 ≤ k → Appended start (all_lines orders) text
     unfolding orders_of order_lines
     printing_all done = rw (sym (rw none_left at printing.all_same), append-nil) printing.so_far
       where
         none_left : orders_from orders k ≡ []
-        none_left = ap orders_of (drop_of_length-le orders {i = 3 * k} (omega (arith, printing.ready.threes, printing.counted)))
+        none_left = ap orders_of (drop_of_length-le orders {i = 3 * k} (omega (arith, ready.threes)))
 
-    module _ (below : k < count) where
+    module _ (below : k < length orders / 3) where
       next_orders : orders_from orders k ≡ order_at orders k ∷ orders_from orders (k + 1)
-      next_orders = next_order orders k (omega (arith, printing.ready.threes, printing.counted))
+      next_orders = next_order orders k (omega (arith, ready.threes))
 
       next : Next (order_at orders k) (orders_from orders (k + 1)) printing.left
       next = next_answer _ _ _ (rw next_orders at printing.left_printable)
@@ -103,52 +93,46 @@ module _ (text₀ : List ℕ) (at : ℕ) (orders answers : List ℕ) (count : �
       abbrev line : List ℕ
       line = order_line (k + 1) (order_at orders k) next.first
 
-      next_bytes : drop (2 * k) (take (2 * count) answers) ≡ high_byte next.first ∷ low_byte next.first ∷ answer_bytes next.rest
+      next_bytes : drop (2 * k) (take (2 * (length orders / 3)) answers) ≡ high_byte next.first ∷ low_byte next.first ∷ answer_bytes next.rest
       unfolding answer_bytes
       next_bytes = printing.left_bytes ∙ ap answer_bytes next.left_is
 
       byte_at : (i : ℕ) → i < 2 → get_or answers (2 * k + i) 0 ≡ get_or (high_byte next.first ∷ low_byte next.first ∷ answer_bytes next.rest) i 0
       byte_at i small =
-          sym (get_or-take (2 * count) answers (2 * k + i) 0 (omega arith)) ∙ sym (get_or-drop (2 * k) (take (2 * count) answers) i 0)
+          sym (get_or-take (2 * (length orders / 3)) answers (2 * k + i) 0 (omega arith)) ∙ sym (get_or-drop (2 * k) (take (2 * (length orders / 3)) answers) i 0)
           ∙ ap (λ (bytes : List ℕ). get_or bytes i 0) next_bytes
 
-      high_at : get_or answers (2 * k) 0 ≡ high_byte next.first
-      high_at = ap (λ (n : ℕ). get_or answers n 0) none_on ∙ byte_at 0 (omega arith)
-        where
-          none_on : 2 * k ≡ 2 * k + 0
-          none_on = omega arith
+      abbrev line_of_pieces : List ℕ
+      line_of_pieces = order_printed (k + 1) (get_or (first_chunks 3 (length orders / 3) orders) k []) (get_or (first_chunks 2 (length answers / 2) answers) k [])
 
-      line_is : line_at orders answers k ≡ line
-      line_is = line_from_bytes (k + 1) (order_at orders k) _ _ next.first next.printable high_at (byte_at 1 (omega arith))
+      line_is : line_of_pieces ≡ line
+      line_is =
+          let first = byte_of_piece 3 (length orders / 3) orders k 0 below (omega arith) ∙ ap (λ (n : ℕ). get_or orders n 0) (add-zero (3 * k)) in
+          let second = byte_of_piece 3 (length orders / 3) orders k 1 below (omega arith) in
+          let third = byte_of_piece 3 (length orders / 3) orders k 2 below (omega arith) in
+          let high = byte_of_piece 2 (length answers / 2) answers k 0 (omega (arith, ready.all_answered)) (omega arith) ∙ byte_at 0 (omega arith) in
+          let low = byte_of_piece 2 (length answers / 2) answers k 1 (omega (arith, ready.all_answered)) (omega arith) ∙ byte_at 1 (omega arith) in
+          rw (first, second, third) (line_from_bytes (k + 1) (order_at orders k) _ _ next.first next.printable high low)
 
-      line_length : length line ≤ 23
-      line_length = order_line_length (k + 1) (order_at orders k) next.first (omega (arith, printing.ready.not_long, printing.counted)) next.printable
-
-      both_room : Room text₀ at (printing.lines ++ line)
-      both_room =
-          record { fits = omega (arith, length-append printing.lines line, line_length, printing.ready.has_room, printing.counted, printing.not_long) }
-
-      pub next_room : Room text end (line_at orders answers k)
-      next_room = rw line_is (room_rest printing.lines line both_room printing.so_far)
-
-      pub printing_more : (text' : List ℕ) (end' : ℕ) → Appended text end (line_at orders answers k) text' end' → Printing text₀ at orders answers count text' end' (k + 1)
+      all_parts : printing.lines ++ (line ++ order_lines (k + 1 + 1) (orders_from orders (k + 1)) next.rest) ≡ all_lines orders
       unfolding order_lines
-      printing_more text' end' written =
+      all_parts =
+          ap (λ (n : ℕ). printing.lines ++ (line ++ order_lines n (orders_from orders (k + 1)) next.rest)) (add-one (k + 1))
+          ∙ sym (ap₂ (λ (ns : List ℕ) (xs : List Answer). printing.lines ++ order_lines (k + 1) ns xs) next_orders next.left_is)
+          ∙ printing.all_same
+
+      pub next_fits : length (all_lines orders) ≤ room start → length line_of_pieces ≤ room text
+      next_fits fits = rw line_is (omega (arith, simp length-append at (ap length all_parts), printing.so_far.place_is, printing.so_far.length_same))
+
+      pub printing_more : (text' : Text) → Appended text line_of_pieces text' → Printing start orders answers text' (k + 1)
+      printing_more text' written =
           record {
-            ready = printing.ready;
-            counted = printing.counted;
-            at_most = omega arith;
             lines = printing.lines ++ line;
-            so_far = appended_both printing.lines line both_room printing.so_far (rw line_is at written);
-            not_long = omega (arith, length-append printing.lines line, line_length, printing.not_long);
+            so_far = appended_both printing.lines line printing.so_far (rw line_is at written);
             left = next.rest;
-            left_bytes = ap (λ (n : ℕ). drop n (take (2 * count) answers)) two_on ∙ sym (drop-drop 2 (2 * k) (take (2 * count) answers)) ∙ ap (drop 2) next_bytes;
+            left_bytes = ap (λ (n : ℕ). drop n (take (2 * (length orders / 3)) answers)) two_on ∙ sym (drop-drop 2 (2 * k) (take (2 * (length orders / 3)) answers)) ∙ ap (drop 2) next_bytes;
             left_printable = next.rest_printable;
-            all_same =
-                append_assoc printing.lines line _
-                ∙ ap (λ (n : ℕ). printing.lines ++ (line ++ order_lines n (orders_from orders (k + 1)) next.rest)) (add-one (k + 1))
-                ∙ sym (ap₂ (λ (ns : List ℕ) (xs : List Answer). printing.lines ++ order_lines (k + 1) ns xs) next_orders next.left_is)
-                ∙ printing.all_same;
+            all_same = append_assoc printing.lines line _ ∙ all_parts;
           }
         where
           two_on : 2 * (k + 1) ≡ 2 * k + 2

@@ -3,11 +3,11 @@
 use Rattle.std.specs.Prelude.{if◌then◌else◌}
 use Prim.Native.Nat.{ℕ, ◌+◌, ◌*◌, ◌/◌, ◌%◌, ◌<◌, ◌≤◌}
 use native.Mathlib.Omega.{arith}
-use mathlib.Core.Path.{◌≡◌, refl, sym, ◌∙◌, ap}
+use mathlib.Core.Path.{◌≡◌, refl, sym, ◌∙◌, ap, ap₂}
 use mathlib.Core.Bool.{Bool, true, false}
 use mathlib.Core.List.{List, [], ◌∷◌, ◌++◌}
 use Rattle.std.specs.Prelude.{Option, None, Some}
-use lib.ListN.{length, take, drop, replicate, length-append}
+use lib.ListN.{length, take, drop, replicate, length-append, take-append-drop}
 use lib.Seq.{take-append_seam, take_at}
 use lib.Dec.{ltb}
 use borrow.Author.Tests.{lt-ltb, le-ltb}
@@ -22,8 +22,8 @@ use Rattle.lists.specs.Runs.{bytes_after, bytes_after_list, ListRan}
 use Rattle.lists.proofs.ListChecks.{fit_length, unfit_length, checks_passed}
 use Rattle.lists.proofs.OrdersInTurn.{orders_counted}
 use Rattle.book_text.specs.BookText.{header, list_line, order_lines, book_text}
-use Rattle.book_text.specs.Writing.{written, Room, Appended, longest_text, Answered, BookWritten}
-use Rattle.book_text.proofs.Appending.{appended_both}
+use Rattle.book_text.specs.declared.text.Text.{Text}
+use Rattle.book_text.specs.Writing.{so_far, beyond, Appended, longest_text, Answered, BookWritten}
 use Rattle.book_text.proofs.TextLength.{book_text_length}
 
 -- The list on the empty plan
@@ -63,14 +63,12 @@ module _ (plan : Plan) (input lent : List ℕ) (after : Plan) (answers : List �
       by_length false e = refl
       by_length true e = absurd (let some_is : None ≡ Some 7 = refusal_here None ran true e in let z : ◌≡◌ {A = ℕ} 0 1 = cc in omega arith)
 
-  pub ran_answered : tree_of plan ≡ nothing → ListRan plan input lent None after answers → length answers ≡ length lent → (text : List ℕ) (at : ℕ) → at + 502435 ≤ length text → Answered input answers text at
+  pub ran_answered : tree_of plan ≡ nothing → ListRan plan input lent None after answers → length answers ≡ length lent → Answered input answers
   unfolding bytes_after_list bytes_after
-  ran_answered empty ran same text at fits =
+  ran_answered empty ran same =
       let fit = fit_length (length input) (ran_done ran) in
       record {
         threes = fit.threes;
-        not_long = fit.not_long;
-        has_room = omega arith;
         all_answered = omega arith;
         answers_are =
             ap (take (2 * (length input / 3))) (ran.bytes_are ∙ ap (λ (o : Option ℕ). bytes_after_list o plan input lent) (sym ran.refusal_is))
@@ -84,33 +82,17 @@ module _ (plan : Plan) (input lent : List ℕ) (after : Plan) (answers : List �
 
 -- The header and what follows it
 
-module _ (input text : List ℕ) where
-  pub no_room : length text < longest_text → BookWritten input text text 0
-  no_room short = record { length_is = rw (lt-ltb (length text) longest_text short); text_is = rw (lt-ltb (length text) longest_text short) }
+pub text_refused : (input : List ℕ) → length_refused (length input) ≡ true → book_text input ≡ header ++ list_line
+unfolding book_text
+text_refused input refused = rw refused
 
-  text_written : (rest between after : List ℕ) (at r : ℕ) → longest_text ≤ length text → book_text input ≡ header ++ rest → Appended text 0 header between at → Appended between at rest after r →
-      BookWritten input text after r
-  unfolding written
-  text_written rest between after at r long text_is first second =
-      record { length_is = rw (le-ltb (length text) longest_text long) (all.next_is ∙ from_start); text_is = rw (le-ltb (length text) longest_text long) (all.text_is ∙ ap (λ (n : ℕ). book_text input ++ drop n text) from_start) }
-    where
-      room : Room text 0 (header ++ rest)
-      room = record { fits = omega (arith, book_text_length input, ap length text_is) }
+pub text_of_orders : (input : List ℕ) → length_refused (length input) ≡ false → book_text input ≡ header ++ order_lines 1 (orders_of input) (list_answers nothing (orders_of input))
+unfolding book_text
+text_of_orders input passed = rw passed
 
-      from_start : 0 + length (book_text input) ≡ length (book_text input)
-      from_start = omega arith
-
-      all : Appended text 0 (book_text input) after r
-      all = rw text_is (appended_both header rest room first second)
-
-  module _ (between after : List ℕ) (at r : ℕ) (long : longest_text ≤ length text) (first : Appended text 0 header between at) where
-    pub refused_written : length_refused (length input) ≡ true → Appended between at list_line after r → BookWritten input text after r
-    unfolding book_text
-    refused_written refused second = text_written list_line between after at r long (rw refused) first second
-
-    pub orders_written : length_refused (length input) ≡ false → Appended between at (order_lines 1 (orders_of input) (list_answers nothing (orders_of input))) after r → BookWritten input text after r
-    unfolding book_text
-    orders_written passed second = text_written _ between after at r long (rw passed) first second
+pub header_first : (input : List ℕ) → length header ≤ length (book_text input)
+unfolding book_text
+header_first input = rw length-append (omega arith)
 
 -- What was written is within the lent bytes, and with room for the longest text it is the whole text.
 
