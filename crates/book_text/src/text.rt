@@ -36,6 +36,7 @@ impl Text<'_> {
     }
 
     // Writes a number in decimal digits.
+    #[tactic(auto, using(crate::proofs::Decimal::decimal_printed))]
     fn append_decimal(&mut self, number: u64)
         requires { length (decimal number) ≤ room self.old }
         ensures { Appended self.old (decimal number) self.new }
