@@ -1,6 +1,6 @@
 -- Bytes written one after the other (specs/Writing.antt): none, and some and then further ones.
 -- Assumes nothing.
-use Prim.Native.Nat.{ℕ, ◌+◌}
+use Prim.Native.Nat.{ℕ}
 use native.Mathlib.Omega.{arith}
 use mathlib.Core.Path.{refl, sym, ◌∙◌, ap}
 use mathlib.Core.List.{List, [], ◌++◌, append-nil, append_assoc}

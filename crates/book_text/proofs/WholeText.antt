@@ -1,16 +1,16 @@
 -- The whole text: what running the list tells of its answers, and the header with what follows it.
 -- Assumes nothing.
 use Rattle.std.specs.Prelude.{if◌then◌else◌}
-use Prim.Native.Nat.{ℕ, ◌+◌, ◌*◌, ◌/◌, ◌%◌, ◌<◌, ◌≤◌}
+use Prim.Native.Nat.{ℕ, ◌*◌, ◌/◌, ◌%◌, ◌≤◌}
 use native.Mathlib.Omega.{arith}
-use mathlib.Core.Path.{◌≡◌, refl, sym, ◌∙◌, ap, ap₂}
+use mathlib.Core.Path.{◌≡◌, refl, sym, ◌∙◌, ap}
 use mathlib.Core.Bool.{Bool, true, false}
 use mathlib.Core.List.{List, [], ◌∷◌, ◌++◌}
 use Rattle.std.specs.Prelude.{Option, None, Some}
-use lib.ListN.{length, take, drop, replicate, length-append, take-append-drop}
+use lib.ListN.{length, take, drop, replicate, length-append}
 use lib.Seq.{take-append_seam, take_at}
 use lib.Dec.{ltb}
-use borrow.Author.Tests.{lt-ltb, le-ltb}
+use borrow.Author.Tests.{le-ltb}
 use Rattle.tree.specs.declared.Plan.{Plan}
 use Rattle.tree.specs.Tree.{Tree, nothing, path, path_of}
 use Rattle.tree.specs.Asking.{rows_11}
@@ -18,13 +18,13 @@ use Rattle.tree.specs.Record.{tree_of, record_of, numbers, numbers_below}
 use Rattle.bridge.specs.Rows.{tree_of_rows}
 use Rattle.bridge.proofs.CarriedLegal.{empty_recorded}
 use Rattle.lists.specs.Lists.{orders_of, order_after, list_answers, answer_bytes, length_refused, room_refused, list_refusal}
-use Rattle.lists.specs.Runs.{bytes_after, bytes_after_list, ListRan}
+use Rattle.lists.specs.declared.ListAnswer.{ListAnswer}
+use Rattle.lists.specs.declared.ListAnswer.TheVariants.{Done, Refused}
+use Rattle.lists.specs.Runs.{refusal_in, bytes_after, bytes_after_list, ListRan}
 use Rattle.lists.proofs.ListChecks.{fit_length, unfit_length, checks_passed}
 use Rattle.lists.proofs.OrdersInTurn.{orders_counted}
 use Rattle.book_text.specs.BookText.{header, list_line, order_lines, book_text}
-use Rattle.book_text.specs.declared.text.Text.{Text}
-use Rattle.book_text.specs.Writing.{so_far, beyond, Appended, longest_text, Answered, BookWritten}
-use Rattle.book_text.proofs.TextLength.{book_text_length}
+use Rattle.book_text.specs.Writing.{longest_text, Answered, BookWritten}
 
 -- The list on the empty plan
 
@@ -49,23 +49,23 @@ module _ (plan : Plan) (input lent : List ℕ) (after : Plan) (answers : List �
   refusal_here : (o : Option ℕ) → ListRan plan input lent o after answers → (b : Bool) → length_refused (length input) ≡ b → o ≡ (if b then Some 7 else None)
   refusal_here o ran b e = ran.refusal_is ∙ ap (list_refusal (length input)) (sym room) ∙ refused_by_length (length input) b e
 
-  pub ran_refused : (m : ℕ) → ListRan plan input lent (Some m) after answers → length_refused (length input) ≡ true
+  ran_refused : (m : ℕ) → ListRan plan input lent (Some m) after answers → length_refused (length input) ≡ true
   ran_refused m ran = by_length (length_refused (length input)) refl
     where
       by_length : (b : Bool) → length_refused (length input) ≡ b → b ≡ true
       by_length true e = refl
-      by_length false e = absurd (let none_is : Some m ≡ None = refusal_here (Some m) ran false e in let z : ◌≡◌ {A = ℕ} 0 1 = cc in omega arith)
+      by_length false e = let none_is : Some m ≡ None = refusal_here (Some m) ran false e in cc
 
-  pub ran_done : ListRan plan input lent None after answers → length_refused (length input) ≡ false
+  ran_done : ListRan plan input lent None after answers → length_refused (length input) ≡ false
   ran_done ran = by_length (length_refused (length input)) refl
     where
       by_length : (b : Bool) → length_refused (length input) ≡ b → b ≡ false
       by_length false e = refl
-      by_length true e = absurd (let some_is : None ≡ Some 7 = refusal_here None ran true e in let z : ◌≡◌ {A = ℕ} 0 1 = cc in omega arith)
+      by_length true e = let some_is : ◌≡◌ {A = Option ℕ} None (Some 7) = refusal_here None ran true e in cc
 
-  pub ran_answered : tree_of plan ≡ nothing → ListRan plan input lent None after answers → length answers ≡ length lent → Answered input answers
+  done_answered : tree_of plan ≡ nothing → ListRan plan input lent None after answers → length answers ≡ length lent → Answered input answers
   unfolding bytes_after_list bytes_after
-  ran_answered empty ran same =
+  done_answered empty ran same =
       let fit = fit_length (length input) (ran_done ran) in
       record {
         threes = fit.threes;
@@ -80,15 +80,20 @@ module _ (plan : Plan) (input lent : List ℕ) (after : Plan) (answers : List �
       counted threes =
           answered_length (tree_of plan) (orders_of input) ∙ ap (λ (n : ℕ). 2 * n) (orders_counted (length input / 3) input (omega arith))
 
--- The header and what follows it
+  -- What running the list tells of the text, and of the answer bytes, by its answer
 
-pub text_refused : (input : List ℕ) → length_refused (length input) ≡ true → book_text input ≡ header ++ list_line
-unfolding book_text
-text_refused input refused = rw refused
+  module _ (answer : ListAnswer) (ran : ListRan plan input lent (refusal_in answer) after answers) where
+    pub text_refused : (m : ℕ) → answer ≡ Refused m → book_text input ≡ header ++ list_line
+    unfolding refusal_in book_text
+    text_refused m refused = rw (ran_refused m (rw (ap refusal_in refused) at ran))
 
-pub text_of_orders : (input : List ℕ) → length_refused (length input) ≡ false → book_text input ≡ header ++ order_lines 1 (orders_of input) (list_answers nothing (orders_of input))
-unfolding book_text
-text_of_orders input passed = rw passed
+    pub text_of_orders : answer ≡ Done → book_text input ≡ header ++ order_lines 1 (orders_of input) (list_answers nothing (orders_of input))
+    unfolding refusal_in book_text
+    text_of_orders done = rw (ran_done (rw (ap refusal_in done) at ran))
+
+    pub ran_answered : answer ≡ Done → tree_of plan ≡ nothing → length answers ≡ length lent → Answered input answers
+    unfolding refusal_in
+    ran_answered done empty same = done_answered empty (rw (ap refusal_in done) at ran) same
 
 pub header_first : (input : List ℕ) → length header ≤ length (book_text input)
 unfolding book_text
