@@ -73,11 +73,10 @@ impl Text<'_> {
         requires { length (line_printed number fields result_field start) ≤ room self.old }
         ensures { Appended self.old (line_printed number fields result_field start) self.new }
     {
-        let period = fields.period;
         self.append_spaced(number);
         self.append_spaced(fields.kind);
         self.append_spaced(fields.line);
-        self.append_spaced(period.0 as u64);
+        self.append_spaced(fields.period.0 as u64);
         self.append_spaced(result_field);
         self.append_start(fields.kind, result_field, start);
         self.append(b"\n");
