@@ -101,10 +101,10 @@ impl Text<'_> {
         requires answered { Answered orders.now answers.now }
         ensures { Appended self.old (order_lines 1 (orders_of orders.now) (list_answers nothing (orders_of orders.now))) self.new }
     {
-        let (threes, _) = orders.as_chunks::<3>();
-        let (pairs, _) = answers.as_chunks::<2>();
-        for (k, three) in threes.iter().enumerate() {
-            self.append_order(k as u64 + 1, *three, pairs[k]);
+        let (order_bytes, _) = orders.as_chunks::<3>();
+        let (answer_bytes, _) = answers.as_chunks::<2>();
+        for (k, order) in order_bytes.iter().enumerate() {
+            self.append_order(k as u64 + 1, *order, answer_bytes[k]);
         }
     }
 
