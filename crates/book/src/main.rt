@@ -4,11 +4,9 @@
 
 ghost use Rattle.std.specs.Prelude.{◌≡◌, ◌≤◌, length};
 ghost use Rattle.book_text.specs.BookText.{book_text};
-ghost use Rattle.book_text.specs.Writing.{longest_text};
 
 use book_text::LONGEST_TEXT;
-use std::io;
-use std::io::{Read, Write};
+use std::io::{self, Read, Write};
 
 // One byte more than the longest list.
 const MOST_INPUT: usize = 65536;
@@ -23,7 +21,9 @@ struct Input<'a> {
 // Reads an input into the start of the buffer, until the buffer is full, the input ends or a read fails. A read that a
 // signal interrupts counts as one that failed. The loop is not `read_to_end`, which wants a heap, nor `read_exact`, which
 // does not tell how much it read before it failed.
-fn read_input<'a>(source: &mut impl Read, buffer: &'a mut [u8]) -> Input<'a> {
+fn read_input<'a>(source: &mut impl Read, buffer: &'a mut [u8]) -> Input<'a>
+    ensures { length result.bytes.now ≤ length buffer.old }
+{
     let mut length = 0;
     while length < buffer.len() {
         match source.read(&mut buffer[length..]) {
@@ -44,8 +44,7 @@ fn read_input<'a>(source: &mut impl Read, buffer: &'a mut [u8]) -> Input<'a> {
 }
 
 // The whole text for an input, which is what main then prints, written into lent bytes.
-fn write_whole<'a>(input: &[u8], lent: &'a mut [u8]) -> &'a [u8]
-    requires { longest_text ≤ length lent.old }
+fn write_whole<'a>(input: &[u8], lent: &'a mut [u8; LONGEST_TEXT]) -> &'a [u8]
     ensures { result.now ≡ book_text input.now }
 {
     let length = book_text::write_text(input, lent);
@@ -53,7 +52,8 @@ fn write_whole<'a>(input: &[u8], lent: &'a mut [u8]) -> &'a [u8]
 }
 
 // One byte more than the longest list is read, so that a longer one is refused. What was read is printed before any
-// report. That a report cannot be written is not reported, since there is nowhere to.
+// report. A write that a signal interrupts is tried again by `write_all`. That a report cannot be written is not
+// reported, since there is nowhere to.
 fn main(rt: HostRuntime) {
     let mut input_buffer = [0; MOST_INPUT];
     let mut text_buffer = [0; LONGEST_TEXT];
