@@ -14,7 +14,7 @@ const MOST_ANSWER_BYTES: usize = 43690;
 pub(crate) struct Text<'a> {
     pub(crate) bytes: &'a mut [u8],
     pub(crate) place: usize,
-    pub ghost within: { place ≤ length bytes.now },
+    ghost within: { place ≤ length bytes.now },
 }
 
 impl Text<'_> {
