@@ -24,3 +24,6 @@ appended_both {text} xs ys first second =
       length_same = second.length_same ∙ first.length_same;
       same_lent = second.same_lent ∙ first.same_lent;
     }
+
+-- Words one after the other are as long as all of them together: by this the check sees in `append_line` that each word has room.
+pub ruleset lengths = (length-append)

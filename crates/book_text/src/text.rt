@@ -68,7 +68,7 @@ impl Text<'_> {
     }
 
     // Writes the line of an order.
-    #[tactic(auto, unfolding(crate::specs::Writing::line_printed, crate::specs::BookText::text_line))]
+    #[tactic(auto, using(crate::proofs::Appending::lengths), unfolding(crate::specs::Writing::line_printed, crate::specs::BookText::text_line))]
     fn append_line(&mut self, number: u64, fields: OrderFields, result_field: u64, start: u64)
         requires { length (line_printed number fields result_field start) ≤ room self.old }
         ensures { Appended self.old (line_printed number fields result_field start) self.new }
