@@ -6,7 +6,7 @@ use native.Mathlib.Omega.{arith}
 use mathlib.Core.Path.{◌≡◌, refl, sym, ◌∙◌, ap}
 use mathlib.Core.Bool.{Bool, true, false}
 use mathlib.Core.List.{List, [], ◌∷◌, ◌++◌}
-use Rattle.std.specs.Prelude.{Option, None, Some}
+use Rattle.std.specs.Prelude.{Option, None, Some, Result, Ok, Err}
 use lib.ListN.{length, take, drop, replicate, length-append}
 use lib.Seq.{take-append_seam, take_at}
 use lib.Dec.{ltb}
@@ -18,8 +18,8 @@ use Rattle.tree.specs.Record.{tree_of, record_of, numbers, numbers_below}
 use Rattle.bridge.specs.Rows.{tree_of_rows}
 use Rattle.bridge.proofs.CarriedLegal.{empty_recorded}
 use Rattle.lists.specs.Lists.{orders_of, order_after, list_answers, answer_bytes, length_refused, room_refused, list_refusal}
-use Rattle.lists.specs.declared.ListAnswer.{ListAnswer}
-use Rattle.lists.specs.declared.ListAnswer.TheVariants.{Done, Refused}
+use Rattle.tree.specs.declared.refusal.Refusal.{Refusal}
+use Rattle.tree.specs.Answered.{number_of}
 use Rattle.lists.specs.Runs.{refusal_in, bytes_after, bytes_after_list, ListRan}
 use Rattle.lists.proofs.ListChecks.{fit_length, unfit_length, checks_passed}
 use Rattle.lists.proofs.OrdersInTurn.{orders_counted}
@@ -82,16 +82,16 @@ module _ (plan : Plan) (input lent : List ℕ) (after : Plan) (answers : List �
 
   -- What running the list tells of the text, and of the answer bytes, by its answer
 
-  module _ (answer : ListAnswer) (ran : ListRan plan input lent (refusal_in answer) after answers) where
-    pub text_refused : (m : ℕ) → answer ≡ Refused m → book_text input ≡ header ++ list_line
+  module _ (answer : Result Unit Refusal) (ran : ListRan plan input lent (refusal_in answer) after answers) where
+    pub text_refused : (r : Refusal) → answer ≡ Err r → book_text input ≡ header ++ list_line
     unfolding refusal_in book_text
-    text_refused m refused = rw (ran_refused m (rw (ap refusal_in refused) at ran))
+    text_refused r refused = rw (ran_refused (number_of r) (rw (ap refusal_in refused) at ran))
 
-    pub text_of_orders : answer ≡ Done → book_text input ≡ header ++ order_lines 1 (orders_of input) (list_answers nothing (orders_of input))
+    pub text_of_orders : answer ≡ Ok tt → book_text input ≡ header ++ order_lines 1 (orders_of input) (list_answers nothing (orders_of input))
     unfolding refusal_in book_text
     text_of_orders done = rw (ran_done (rw (ap refusal_in done) at ran))
 
-    pub ran_answered : answer ≡ Done → tree_of plan ≡ nothing → length answers ≡ length lent → Answered input answers
+    pub ran_answered : answer ≡ Ok tt → tree_of plan ≡ nothing → length answers ≡ length lent → Answered input answers
     unfolding refusal_in
     ran_answered done empty same = done_answered empty (rw (ap refusal_in done) at ran) same
 

@@ -2,7 +2,6 @@
 ghost use Rattle.std.specs.Prelude.{◌≤◌, length};
 
 use itoa::Buffer;
-use lists::ListAnswer;
 use orders::{Bytes, OrderFields};
 use tree::Plan;
 
@@ -117,8 +116,8 @@ impl Text<'_> {
         let mut answers = [0; MOST_ANSWER_BYTES];
         let ran = lists::run_list(Plan { rows: [0; 1408] }, input, &mut answers);
         match ran.answer {
-            ListAnswer::Done => self.append_orders(input, &answers),
-            ListAnswer::Refused(_) => self.append(b"list 7\n"),
+            Ok(()) => self.append_orders(input, &answers),
+            Err(_) => self.append(b"list 7\n"),
         }
     }
 }

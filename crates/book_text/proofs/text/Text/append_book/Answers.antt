@@ -13,24 +13,24 @@ append-requires c = omega (arith, header_length, header_first c.args.input.now)
 
 pub append_orders-requires-clause-has_room : goal.append_orders-requires-clause-has_room
 append_orders-requires-clause-has_room c =
-    let whole = text_of_orders _ _ _ _ _ refl _ c.run_list-ran.ensures c.in-Done.is in
+    let whole = text_of_orders _ _ _ _ _ refl _ c.run_list-ran.ensures c.in-Ok.is in
     omega (arith, header_length, simp length-append at (ap length whole))
 
 pub append_orders-requires-clause-answered : goal.append_orders-requires-clause-answered
-append_orders-requires-clause-answered c = ran_answered _ _ _ _ _ refl _ c.run_list-ran.ensures c.in-Done.is empty_plan c.run_list-ran.auto.answers
+append_orders-requires-clause-answered c = ran_answered _ _ _ _ _ refl _ c.run_list-ran.ensures c.in-Ok.is empty_plan c.run_list-ran.auto.answers
 
-pub append-requires-in-Refused : goal.append-requires-in-Refused
+pub append-requires-in-Err : goal.append-requires-in-Err
 unfolding list_line ascii
-append-requires-in-Refused c =
-    let whole = text_refused _ _ _ _ _ refl _ c.run_list-ran.ensures _ c.in-Refused.is in
+append-requires-in-Err c =
+    let whole = text_refused _ _ _ _ _ refl _ c.run_list-ran.ensures _ c.in-Err.is in
     omega (arith, header_length, simp length-append at (ap length whole))
 
-pub returns-in-Done : goal.returns-in-Done
+pub returns-in-Ok : goal.returns-in-Ok
 unfolding header ascii
-returns-in-Done c =
-    rw (text_of_orders _ _ _ _ _ refl _ c.run_list-ran.ensures c.in-Done.is) (appended_both _ _ c.append.ensures c.append_orders.ensures)
+returns-in-Ok c =
+    rw (text_of_orders _ _ _ _ _ refl _ c.run_list-ran.ensures c.in-Ok.is) (appended_both _ _ c.append.ensures c.append_orders.ensures)
 
-pub returns-in-Refused : goal.returns-in-Refused
+pub returns-in-Err : goal.returns-in-Err
 unfolding header list_line ascii
-returns-in-Refused c =
-    rw (text_refused _ _ _ _ _ refl _ c.run_list-ran.ensures _ c.in-Refused.is) (appended_both _ _ c.append.ensures c.append-in-Refused.ensures)
+returns-in-Err c =
+    rw (text_refused _ _ _ _ _ refl _ c.run_list-ran.ensures _ c.in-Err.is) (appended_both _ _ c.append.ensures c.append-in-Err.ensures)
