@@ -12,6 +12,7 @@ use lib.ListN.{length, take, length-take}
 use Rattle.tree.specs.declared.Row.{Row}
 use Rattle.tree.specs.Tree.{row}
 use Rattle.tree.specs.declared.refusal.Refusal.{Refusal}
+use Rattle.tree.specs.Answered.{number_of}
 use Rattle.tree.specs.Refusals.{period_out_of_range, no_room, open_refusal}
 use Rattle.tree.specs.Calls.{open_line, booked}
 use Rattle.tree.specs.Record.{path_at, no_rows, legal}
@@ -65,6 +66,11 @@ checked_if_bookable rows L p ready (Ok None) searched = (ready, searched)
 checked_if_bookable rows L p ready (Ok (Some s)) searched = record { bookable = ready; found_one = searched }
 
 -- what was found, case by case
+
+pub checked_refusal : (rows : List ℕ) (L p : ℕ) {r : Refusal} → OpenChecked rows L p (Err r) → open_refusal L p (tree_of_rows rows) ≡ Some (number_of r)
+unfolding OpenChecked
+checked_refusal rows L p checked = checked
+
 module _ (rows : List ℕ) (L p : ℕ) {o : Option CandidateSpot} (checked : OpenChecked rows L p (Ok o)) where
   pub checked_root : o ≡ None → Bookable rows L p × ClosedFrom rows 0
   unfolding OpenChecked

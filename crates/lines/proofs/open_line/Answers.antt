@@ -7,8 +7,7 @@ use Rattle.tree.proofs.Checks.{open_refused_1}
 use Rattle.tree.proofs.LineAsked.{line_accepted, line_refused}
 use Rattle.bridge.proofs.CallsOnRecords.{refused_on}
 use Rattle.lines.specs.Answers.{open_answer}
-use Rattle.lines.specs.Checks.{OpenChecked}
-use Rattle.lines.proofs.OpenLine.{checked_root, checked_spot, open_first}
+use Rattle.lines.proofs.OpenLine.{checked_refusal, checked_root, checked_spot, open_first}
 use Rattle.lines.proofs.open_line.Goals as goal
 
 pub book_at-requires : goal.book_at-requires
@@ -22,10 +21,10 @@ returns-in_err-line c =
     rw (told.1, told.2, above.0) (refused_on _ _ _ (open_refused_1 _ _ _ above.1))
 
 pub returns-in_err-spot : goal.returns-in_err-spot
-unfolding open_answer refusal OpenChecked
+unfolding open_answer refusal
 returns-in_err-spot c =
     let told = err_from_is_err_and c.from_residual-in_err-spot.result c.from_residual-in_err-spot.ensures.1 in
-    rw (sym (line_accepted _ _ c.in_ok-line.ensures), told.1, told.2) (refused_on _ _ _ c.in_err-spot.ensures)
+    rw (sym (line_accepted _ _ c.in_ok-line.ensures), told.1, told.2) (refused_on _ _ _ (checked_refusal _ _ _ c.in_err-spot.ensures))
 
 pub returns-in_default : goal.returns-in_default
 unfolding open_answer

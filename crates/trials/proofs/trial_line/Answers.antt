@@ -5,8 +5,7 @@ use Rattle.std.proofs.lemmas.Result.{err_from_is_err_and}
 use Rattle.tree.specs.Answered.{outcome_of}
 use Rattle.tree.proofs.Checks.{open_refused_1}
 use Rattle.tree.proofs.LineAsked.{line_accepted, line_refused}
-use Rattle.lines.specs.Checks.{OpenChecked}
-use Rattle.lines.proofs.OpenLine.{checked_root, checked_spot}
+use Rattle.lines.proofs.OpenLine.{checked_refusal, checked_root, checked_spot}
 use Rattle.trials.proofs.TrialLine.{trial_refused, trial_first, spot_tryable, trial_booked}
 use Rattle.trials.proofs.trial_line.Goals as goal
 
@@ -18,10 +17,10 @@ returns-in_err-line c =
     rw (told.1, told.2, above.0) (trial_refused _ _ _ (open_refused_1 _ _ _ above.1))
 
 pub returns-in_err-spot : goal.returns-in_err-spot
-unfolding outcome_of OpenChecked
+unfolding outcome_of
 returns-in_err-spot c =
     let told = err_from_is_err_and c.from_residual-in_err-spot.result c.from_residual-in_err-spot.ensures.1 in
-    rw (sym (line_accepted _ _ c.in_ok-line.ensures), told.1, told.2) (trial_refused _ _ _ c.in_err-spot.ensures)
+    rw (sym (line_accepted _ _ c.in_ok-line.ensures), told.1, told.2) (trial_refused _ _ _ (checked_refusal _ _ _ c.in_err-spot.ensures))
 
 pub returns-in_default : goal.returns-in_default
 unfolding outcome_of
