@@ -7,12 +7,8 @@ use mathlib.Core.Bool.{Bool, true, false, ◌||◌, or-false, or_assoc}
 use mathlib.Core.List.{List, [], ◌∷◌, ◌++◌, append_assoc}
 use lib.ListN.{length, get_or, take, drop, take-append-drop, drop_of_length-le}
 use lib.Seq.{drop-cons, drop-drop}
-use Rattle.std.specs.Prelude.{Option, None, Some, Result, Ok, Err}
-use Rattle.std.specs.Result.{is_ok}
 use Rattle.std.specs.Simd.{first_chunks}
 use Rattle.std.proofs.lemmas.List.{take_at, drop_at, length-append, length-take-le}
-use Rattle.tree.specs.declared.Start.{Start}
-use Rattle.tree.specs.declared.refusal.Refusal.{Refusal}
 use Rattle.tree.specs.Tree.{Tree}
 use Rattle.tree.specs.Calls.{Answer}
 use Rattle.tree.specs.Record.{legal}
@@ -20,7 +16,7 @@ use Rattle.bridge.specs.Rows.{tree_of_rows}
 use Rattle.orders.specs.declared.Bytes.{Bytes}
 use Rattle.orders.specs.Order.{order_of}
 use Rattle.lists.specs.Lists.{order_after, orders_of, order_answer, list_answers, list_after, high_byte, low_byte, answer_bytes, carried, some_carried}
-use Rattle.lists.specs.Runs.{answer_in, OrderRan, bytes_after, OrdersRan}
+use Rattle.lists.specs.Runs.{OrderRan, bytes_after, OrdersRan}
 
 -- The orders of a list
 
@@ -32,6 +28,7 @@ order_at bytes k = order_of (record { 0 = get_or bytes (3 * k) 0; 1 = get_or byt
 abbrev orders_from : List ℕ → ℕ → List ℕ
 orders_from bytes k = orders_of (drop (3 * k) bytes)
 
+-- the next order is that of the next three bytes
 next_three : (bytes : List ℕ) (k : ℕ) (b : Bytes) → take 3 (drop (3 * k) bytes) ≡ b.0 ∷ b.1 ∷ b.2 ∷ [] → orders_from bytes k ≡ order_of b ∷ orders_from bytes (k + 1)
 unfolding orders_of
 next_three bytes k b taken =
@@ -70,6 +67,7 @@ orders_counted (suc count) (a ∷ []) threes = absurd (omega arith)
 orders_counted (suc count) (a ∷ b ∷ []) threes = absurd (omega arith)
 orders_counted (suc count) (a ∷ b ∷ c ∷ bytes) threes = ap suc (orders_counted count bytes (omega arith))
 
+-- array k of the bytes taken three by three
 three_taken : (count k : ℕ) (bytes : List ℕ) → k < count → get_or (first_chunks 3 count bytes) k [] ≡ take 3 (drop (3 * k) bytes)
 three_taken zero k bytes below = absurd (omega arith)
 three_taken (suc count) zero bytes below = refl
@@ -79,19 +77,13 @@ three_taken (suc count) (suc k) bytes below =
     on : 3 + 3 * k ≡ 3 * suc k
     on = omega arith
 
--- the same of the bytes as arrays of three
+-- the next order is that of the next array of three
 pub next_taken : (bytes : List ℕ) (count k : ℕ) (threes : List (List ℕ)) (b : Bytes) → threes ≡ first_chunks 3 count bytes → k < count → get_or threes k [] ≡ b.0 ∷ b.1 ∷ b.2 ∷ []
     → orders_from bytes k ≡ order_of b ∷ orders_from bytes (k + 1)
 next_taken bytes count k threes b taken below three =
     next_three bytes k b (sym (ap (λ (xs : List (List ℕ)). get_or xs k []) taken ∙ three_taken count k bytes below) ∙ three)
 
 -- The loop
-
-pub carried_is_ok : (answer : Result (Option Start) Refusal) → is_ok answer ≡ carried (answer_in answer)
-unfolding carried answer_in
-carried_is_ok (Ok (Some s)) = refl
-carried_is_ok (Ok None) = refl
-carried_is_ok (Err r) = refl
 
 -- an order's answer takes the first two of the lent bytes
 bytes_of_first : (t : Tree) (n : ℕ) (ns lent : List ℕ) → bytes_after t (n ∷ ns) lent ≡ high_byte (order_answer n t) ∷ low_byte (order_answer n t) ∷ bytes_after (order_after n t) ns (drop 2 lent)

@@ -102,11 +102,11 @@ fn run_checked(rows: &mut [u16; 1408], orders: &[u8], answers: &mut [u8])
     requires { list_refusal (length orders.now) (length answers.old) ≡ None }
     ensures { CheckedRan (plan_of rows.old) orders.now answers.old (plan_of rows.new) answers.new }
 {
-    if !paths::legal(rows) {
+    if paths::legal(rows) {
+        run_orders(rows, orders, answers);
+    } else {
         run_in_empty(rows, orders, answers);
-        return;
     }
-    run_orders(rows, orders, answers);
 }
 
 // Runs a list of orders on a record that is lent. Refused with 7 or 8, the first that applies: then record and lent bytes are

@@ -6,7 +6,7 @@ use borrow.Author.Rules.{rules}
 use Rattle.lists.proofs.run_checked.Goals as goal
 
 pub run_orders-requires : goal.run_orders-requires
-run_orders-requires c = list_runnable _ _ _ (sym c.legal.ensures ∙ c.if-not-legal.false) (search rules)
+run_orders-requires c = list_runnable _ _ _ (sym c.legal.ensures ∙ c.if-legal.true) (search rules)
 
-pub returns : goal.returns
-returns c = ran_in_place _ _ _ _ _ (sym c.legal.ensures ∙ c.if-not-legal.false) c.told-rows c.run_orders.array_long _ c.run_orders.ensures
+pub returns-then-legal : goal.returns-then-legal
+returns-then-legal c = ran_in_place _ _ _ _ _ (sym c.legal.ensures ∙ c.if-legal.true) c.told-rows c.run_orders.array_long _ c.run_orders.ensures

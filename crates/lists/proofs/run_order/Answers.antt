@@ -1,9 +1,6 @@
 -- `lists::run_order` meets its contract: the order cannot be read, or its call is refused or carried out.
 -- Assumes nothing.
-use mathlib.Core.Path.{sym, ◌∙◌}
 use Rattle.std.proofs.lemmas.Result.{err_from_is_err_and}
-use Rattle.tree.specs.Answered.{outcome_of}
-use Rattle.tree.specs.Calls.{open_line, close_line}
 use Rattle.orders.specs.Reading.{call_told}
 use Rattle.lines.specs.Answers.{open_answer, close_answer}
 use Rattle.lists.specs.Runs.{answer_in}
@@ -11,29 +8,29 @@ use Rattle.lists.proofs.OneOrder.{order_read, order_unread}
 use Rattle.lists.proofs.run_order.Goals as goal
 
 pub returns-in_err-line : goal.returns-in_err-line
-unfolding outcome_of answer_in
+unfolding answer_in
 returns-in_err-line c =
     let told = err_from_is_err_and c.from_residual.result c.from_residual.ensures.1 in
-    rw (told.1, told.2) (order_unread _ _ _ c.requires (sym c.in_err-line.ensures))
+    rw (told.1, told.2) (order_unread _ _ _ c.requires c.in_err-line.ensures)
 
 pub returns-in_err-open_line-in-Open : goal.returns-in_err-open_line-in-Open
-unfolding outcome_of call_told open_answer answer_in
+unfolding call_told open_answer answer_in
 returns-in_err-open_line-in-Open c =
     let told = err_from_is_err_and c.from_residual-in_err-open_line-in-Open.result c.from_residual-in_err-open_line-in-Open.ensures.1 in
-    rw (told.1, told.2) (order_read _ (open_line _ _) _ _ _ c.requires (sym c.in_ok-line.ensures ∙ rw c.in-Open.is) c.in_err-open_line-in-Open.ensures)
+    rw (told.1, told.2) (order_read _ _ _ _ _ _ c.requires c.in_ok-line.ensures c.in-Open.is c.in_err-open_line-in-Open.ensures)
 
 pub returns-in_ok-open_line-in-Open : goal.returns-in_ok-open_line-in-Open
-unfolding outcome_of call_told open_answer answer_in
+unfolding call_told open_answer answer_in
 returns-in_ok-open_line-in-Open c =
-    order_read _ (open_line _ _) _ _ _ c.requires (sym c.in_ok-line.ensures ∙ rw c.in-Open.is) c.in_ok-open_line-in-Open.ensures
+    order_read _ _ _ _ _ _ c.requires c.in_ok-line.ensures c.in-Open.is c.in_ok-open_line-in-Open.ensures
 
 pub returns-in_err-close_line-in-Close : goal.returns-in_err-close_line-in-Close
-unfolding outcome_of call_told close_answer answer_in
+unfolding call_told close_answer answer_in
 returns-in_err-close_line-in-Close c =
     let told = err_from_is_err_and c.from_residual-in_err-close_line-in-Close.result c.from_residual-in_err-close_line-in-Close.ensures.1 in
-    rw (told.1, told.2) (order_read _ (close_line _) _ _ _ c.requires (sym c.in_ok-line.ensures ∙ rw c.in-Close.is) c.in_err-close_line-in-Close.ensures)
+    rw (told.1, told.2) (order_read _ _ _ _ _ _ c.requires c.in_ok-line.ensures c.in-Close.is c.in_err-close_line-in-Close.ensures)
 
 pub returns-in_ok-close_line-in-Close : goal.returns-in_ok-close_line-in-Close
-unfolding outcome_of call_told close_answer answer_in
+unfolding call_told close_answer answer_in
 returns-in_ok-close_line-in-Close c =
-    order_read _ (close_line _) _ _ _ c.requires (sym c.in_ok-line.ensures ∙ rw c.in-Close.is) c.in_ok-close_line-in-Close.ensures
+    order_read _ _ _ _ _ _ c.requires c.in_ok-line.ensures c.in-Close.is c.in_ok-close_line-in-Close.ensures

@@ -1,6 +1,19 @@
 use native.Mathlib.Omega.{arith}
-use Rattle.lists.proofs.OrdersInTurn.{next_taken, carried_is_ok, running_none, running_more, running_all}
+use mathlib.Core.Path.{◌≡◌, refl}
+use Rattle.std.specs.Prelude.{Option, None, Some, Result, Ok, Err}
+use Rattle.std.specs.Result.{is_ok}
+use Rattle.tree.specs.declared.Start.{Start}
+use Rattle.tree.specs.declared.refusal.Refusal.{Refusal}
+use Rattle.lists.specs.Lists.{carried}
+use Rattle.lists.specs.Runs.{answer_in}
+use Rattle.lists.proofs.OrdersInTurn.{next_taken, running_none, running_more, running_all}
 use Rattle.lists.proofs.run_orders.Goals as goal
+
+carried_is_ok : (answer : Result (Option Start) Refusal) → is_ok answer ≡ carried (answer_in answer)
+unfolding carried answer_in
+carried_is_ok (Ok (Some s)) = refl
+carried_is_ok (Ok None) = refl
+carried_is_ok (Err r) = refl
 
 pub loop-k-init : goal.loop-k-init
 loop-k-init c = running_none _ _ _ c.requires.is_legal
