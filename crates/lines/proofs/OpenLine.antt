@@ -67,9 +67,9 @@ checked_if_bookable rows L p ready (Ok (Some s)) searched = record { bookable = 
 
 -- what was found, case by case
 
-pub checked_refusal : (rows : List ℕ) (L p : ℕ) {r : Refusal} → OpenChecked rows L p (Err r) → open_refusal L p (tree_of_rows rows) ≡ Some (number_of r)
+pub checked_refusal : (rows : List ℕ) (L p : ℕ) (r : Refusal) → OpenChecked rows L p (Err r) → open_refusal L p (tree_of_rows rows) ≡ Some (number_of r)
 unfolding OpenChecked
-checked_refusal rows L p checked = checked
+checked_refusal rows L p r checked = checked
 
 module _ (rows : List ℕ) (L p : ℕ) {o : Option CandidateSpot} (checked : OpenChecked rows L p (Ok o)) where
   pub checked_root : o ≡ None → Bookable rows L p × ClosedFrom rows 0

@@ -20,7 +20,7 @@ pub returns-in_err-spot : goal.returns-in_err-spot
 unfolding outcome_of
 returns-in_err-spot c =
     let told = err_from_is_err_and c.from_residual-in_err-spot.result c.from_residual-in_err-spot.ensures.1 in
-    rw (sym (line_accepted _ _ c.in_ok-line.ensures), told.1, told.2) (trial_refused _ _ _ (checked_refusal _ _ _ c.in_err-spot.ensures))
+    rw (sym (line_accepted _ _ c.in_ok-line.ensures), told.1, told.2) (trial_refused _ _ _ (checked_refusal _ _ _ _ c.in_err-spot.ensures))
 
 pub returns-in_default : goal.returns-in_default
 unfolding outcome_of
