@@ -43,13 +43,7 @@ fn idle_rounds(tree: TreeRecord<'_>, first: u64, rounds: u16) -> u16
     ensures { result ≡ idle_rounds first rounds (tree_of_rows tree.entry.rows.now) }
 {
     (0..rounds)
-        .filter(|ahead| is_idle(
-            tree,
-            Round {
-                from: first,
-                ahead: *ahead,
-            },
-        ))
+        .filter(|&ahead| is_idle(tree, Round { from: first, ahead }))
         .count() as u16
 }
 

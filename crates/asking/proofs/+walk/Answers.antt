@@ -52,7 +52,7 @@ pub returns-then-left-eq0 : goal.returns-then-left-eq0
 returns-then-left-eq0 t c = sym (walk_over _ _ _ _ _ c.if-left-eq0.true)
 
 pub weight-requires : goal.weight-requires
-weight-requires t c = level_below_11 _ c.requires
+weight-requires t c = omega (arith, level_below_11 _ c.requires)
 
 pub remainder-requires : goal.remainder-requires
 remainder-requires t c = child_step_in_range _ c.requires (omega arith) c.weight.ensures (omega arith)
