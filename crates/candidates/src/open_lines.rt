@@ -14,21 +14,25 @@ pub struct OpenLines<'a> {
     ghost closed_from: { ClosedFrom record.rows.now end },
 }
 
-// The open lines of a record. Their end is one more than the largest number of one, 0 in the empty plan.
+// One more than the largest number of an open line, 0 in the empty plan.
+pub fn lines_end(rows: &[u16; 1408]) -> usize
+    ensures { EndOfLines rows.now result }
+{
+    for number in (0..64).rev() {
+        if !is_closed(rows, Line { number }) {
+            return number + 1;
+        }
+    }
+    0
+}
+
+// The open lines of a record that is a tree.
 pub fn open_lines(tree: TreeRecord<'_>) -> OpenLines<'_>
     ensures same_record { result.record.rows.now ≡ tree.entry.rows.now }
     ensures end { EndOfLines tree.entry.rows.now result.end }
 {
-    for number in (0..64).rev() {
-        if !is_closed(tree.rows, Line { number }) {
-            return OpenLines {
-                record: tree,
-                end: number + 1,
-            };
-        }
-    }
     OpenLines {
         record: tree,
-        end: 0,
+        end: lines_end(tree.rows),
     }
 }

@@ -17,7 +17,7 @@ use Rattle.tree.specs.Refusals.{period_out_of_range, no_room, open_refusal}
 use Rattle.tree.specs.Calls.{open_line, booked}
 use Rattle.tree.specs.Record.{path_at, no_rows, legal}
 use Rattle.paths.specs.Rules.{row_of, same_node, Spot, best_of_lines, set_line, split_path, booked_path, booked_at}
-use Rattle.tree.proofs.Checks.{range_positive, range_at_most, open_refused_3, open_last_check}
+use Rattle.tree.proofs.Checks.{range_positive, range_at_most, period_in_range, open_refused_3, open_last_check}
 use Rattle.tree.proofs.Opening.{MayOpen}
 use Rattle.paths.proofs.RowLaws.{no_rows_empty}
 use Rattle.paths.proofs.LegalLines.{legal_rest_unused}
@@ -33,7 +33,7 @@ use Rattle.bridge.proofs.CallsOnRecords.{no_room_on, open_first_on, spot_found, 
 use Rattle.bridge.proofs.SpotFacts.{divisor_positive, product_at_most, product_positive, start_below, row_left, rows_fit}
 use Rattle.bridge.proofs.BookedRecord.{split_path_at}
 use Rattle.lines.specs.Bookable.{Bookable, BookableAt, SplittableIfSmaller, split_if_smaller}
-use Rattle.lines.specs.Checks.{Searched, OpenChecked}
+use Rattle.lines.specs.Checks.{Searched, RoomFound}
 
 -- The checks and the search
 
@@ -55,9 +55,14 @@ pub open_again : (rows : List ℕ) (L p : ℕ) → legal rows ≡ true → L ≤
 open_again rows L p is_legal number inside there =
     open_refused_3 L p (tree_of_rows rows) number inside (open_on_record rows is_legal L (omega arith) ∙ ap not there)
 
--- an open that passes the checks 1, 2 and 3 finds what the search finds
-pub checked_if_bookable : (rows : List ℕ) (L p : ℕ) → Bookable rows L p → (o : Result (Option CandidateSpot) Refusal) → Searched rows p o → OpenChecked rows L p o
-unfolding Searched OpenChecked
+-- an open that passes the checks 1, 2 and 3
+pub checks_passed : (rows : List ℕ) (L p : ℕ) → legal rows ≡ true → L < 64 → (p ≡ 0 → ⊥) → p ≤ 4095 → no_rows (path_at rows L) ≡ true → Bookable rows L p
+checks_passed rows L p is_legal below some_rounds short absent =
+    record { is_legal = is_legal; number = omega arith; inside = period_in_range p (omega arith) short; absent = absent }
+
+-- it finds what the search finds
+pub checked_if_bookable : (rows : List ℕ) (L p : ℕ) → Bookable rows L p → (o : Result (Option CandidateSpot) Refusal) → Searched rows p o → RoomFound rows L p o
+unfolding Searched RoomFound
 checked_if_bookable rows L p ready (Err r) searched =
     let number = ready.number in
     let absent = open_on_record rows ready.is_legal L (omega arith) ∙ ap not ready.absent in
@@ -67,17 +72,17 @@ checked_if_bookable rows L p ready (Ok (Some s)) searched = record { bookable = 
 
 -- what was found, case by case
 
-pub checked_refusal : (rows : List ℕ) (L p : ℕ) (r : Refusal) → OpenChecked rows L p (Err r) → open_refusal L p (tree_of_rows rows) ≡ Some (number_of r)
-unfolding OpenChecked
+pub checked_refusal : (rows : List ℕ) (L p : ℕ) (r : Refusal) → RoomFound rows L p (Err r) → open_refusal L p (tree_of_rows rows) ≡ Some (number_of r)
+unfolding RoomFound
 checked_refusal rows L p r checked = checked
 
-module _ (rows : List ℕ) (L p : ℕ) {o : Option CandidateSpot} (checked : OpenChecked rows L p (Ok o)) where
+module _ (rows : List ℕ) (L p : ℕ) {o : Option CandidateSpot} (checked : RoomFound rows L p (Ok o)) where
   pub checked_root : o ≡ None → Bookable rows L p × ClosedFrom rows 0
-  unfolding OpenChecked
+  unfolding RoomFound
   checked_root told = rw told at checked
 
   pub checked_spot : {s : CandidateSpot} → o ≡ Some s → BookableAt rows L p (spot_in s)
-  unfolding OpenChecked
+  unfolding RoomFound
   checked_spot told = rw told at checked
 
 -- Under the root of an empty plan

@@ -9,6 +9,13 @@ use tree::Period;
 use tree::line::Line;
 use tree::refusal::Refusal;
 
+// Where a line can be booked: the line, and the chosen candidate, or none in the empty plan, where it gets the root.
+#[derive(Clone, Copy)]
+pub struct Room {
+    pub line: Line,
+    pub spot: Option<Spot>,
+}
+
 // Room for a period: the chosen candidate, or none in the empty plan, where the first line gets the root. Refused with 5 where
 // there is no room.
 fn find_room(tree: TreeRecord<'_>, period: Period) -> Result<Option<Spot>, Refusal>
@@ -24,11 +31,12 @@ fn find_room(tree: TreeRecord<'_>, period: Period) -> Result<Option<Spot>, Refus
     Ok(Some(spot))
 }
 
-// The checks of an open after that of the line's number, and the search: refused with 2 for a period out of range, 3 for a
-// line that is open, 5 where there is no candidate.
-pub fn check_open(tree: TreeRecord<'_>, line: Line, period: Period) -> Result<Option<Spot>, Refusal>
-    ensures { OpenChecked tree.entry.rows.now line.number period.0 result }
+// The checks of an open and the search: refused with 1 for a line above 63, 2 for a period out of range, 3 for a line that is
+// open, 5 where there is no candidate.
+pub fn check_open(tree: TreeRecord<'_>, line: u64, period: Period) -> Result<Room, Refusal>
+    ensures { OpenChecked tree.entry.rows.now line period.0 result }
 {
+    let line = Line::try_from(line)?;
     if period.0 == 0 {
         return Err(Refusal::PeriodOutOfRange);
     }
@@ -38,5 +46,6 @@ pub fn check_open(tree: TreeRecord<'_>, line: Line, period: Period) -> Result<Op
     if !paths::is_closed(tree.rows, line) {
         return Err(Refusal::LineOpen);
     }
-    find_room(tree, period)
+    let spot = find_room(tree, period)?;
+    Ok(Room { line, spot })
 }

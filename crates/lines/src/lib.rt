@@ -70,10 +70,10 @@ pub fn open_line(rows: &mut [u16; 1408], line: u64, period: Period) -> Result<St
     requires { legal rows.old ≡ true }
     ensures { CarriedOut (open_line line period.0) rows.old rows.new (open_answer result) }
 {
-    let line = Line::try_from(line)?;
-    let Some(spot) = check::check_open(TreeRecord { rows }, line, period)? else {
-        booking::place_first(rows, line, period);
+    let room = check::check_open(TreeRecord { rows }, line, period)?;
+    let Some(spot) = room.spot else {
+        booking::place_first(rows, room.line, period);
         return Ok(Start(0));
     };
-    Ok(book_at(rows, line, period, spot))
+    Ok(book_at(rows, room.line, period, spot))
 }

@@ -86,8 +86,8 @@ fn trial_at(tree: TreeRecord<'_>, period: Period, spot: Spot) -> Trial
 pub fn trial_line(tree: TreeRecord<'_>, line: u64, period: Period) -> Result<Trial, Refusal>
     ensures { outcome_of trial_told result ≡ trial_outcome line period.0 (tree_of_rows tree.entry.rows.now) }
 {
-    let line = Line::try_from(line)?;
-    let Some(spot) = lines::check::check_open(tree, line, period)? else {
+    let room = lines::check::check_open(tree, line, period)?;
+    let Some(spot) = room.spot else {
         return Ok(Trial {
             start: Start(0),
             added: 1,
