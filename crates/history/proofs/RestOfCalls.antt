@@ -51,10 +51,10 @@ module _ (entries : List Entry) (t : Tree) (is_legal : Legal t) (claim : Demand3
       let zero_where_empty = rest_0_exactly t is_legal round idle.0 in
       record {
         zero_exactly = (
-          λ zero_rest Some. absurd (true≢false (sym (not_empty Some) ∙ zero_where_empty.0 (idle.1 ∙ zero_rest))),
+          λ zero_rest one_open. absurd (true≢false (sym (not_empty one_open) ∙ zero_where_empty.0 (idle.1 ∙ zero_rest))),
           λ none_open. sym idle.1 ∙ zero_where_empty.1 (no_line none_open),
         );
-        next_owned = λ Some. fitting (round + g) (found_some (owner (round + g) t) (is_rest.next_owned (not_empty Some)));
+        next_owned = λ one_open. fitting (round + g) (found_some (owner (round + g) t) (is_rest.next_owned (not_empty one_open)));
         none_before = λ k less L b entered fits. true≢false (sym (ap found ((claim.ownership (round + k) L).1 (b, entered, fits))) ∙ is_rest.none_before k less);
         at_most = rw idle.1 at (rest_at_most t is_legal round);
       }

@@ -6,9 +6,10 @@ use native.Mathlib.Omega.{arith}
 use native.Mathlib.Decide.{dec_lt}
 use mathlib.Core.Path.{◌≡◌, refl, sym, ◌∙◌, ap}
 use mathlib.Core.Logic.{◌↔◌}
-use mathlib.Core.Bool.{Bool, true, false, not, false≢true, not-eq-not}
+use mathlib.Core.Bool.{true, not, false≢true, not-eq-not}
 use mathlib.Core.List.{List, [], ◌∷◌}
 use Rattle.std.specs.Prelude.{Option, None, Some}
+use Rattle.std.proofs.lemmas.Bool.Decides.{same_from_decides, Decides-like}
 use Rattle.std.proofs.lemmas.Option.{none-some}
 use lib.ListN.{get_or-eq_default}
 use lib.Seq.{take_at, get_or_at}
@@ -50,12 +51,9 @@ fits_exactly n (Some c) =
 module _ (entries : List Entry) (t : Tree) (is_legal : Legal t) (claim : Demand3 entries t) where
   -- a line owns a round exactly when by the ledger the round fits it
   owns_by_ledger : (L n : ℕ) → owns L n t ≡ fits n (ledger_of entries L)
-  owns_by_ledger L n = by_tests (owns L n t) refl (fits n (ledger_of entries L)) refl
-    where
-      by_tests : (b : Bool) → owns L n t ≡ b → (c : Bool) → fits n (ledger_of entries L) ≡ c → b ≡ c
-      by_tests true owned c e = sym ((fits_exactly n (ledger_of entries L)).1 ((claim.ownership n L).0 ((owns_exactly L n t).0 owned))) ∙ e
-      by_tests false other false e = refl
-      by_tests false other true e = sym other ∙ (owns_exactly L n t).1 ((claim.ownership n L).1 ((fits_exactly n (ledger_of entries L)).0 e))
+  owns_by_ledger L n =
+      let owned = claim.ownership n L in
+      same_from_decides _ _ (Decides-like _ owned.0 owned.1 (owns_exactly L n t)) (fits_exactly n (ledger_of entries L))
 
   -- and it has an owner exactly when it fits some line
   owned_by_ledger : (n : ℕ) → owned n t ≡ some_below 64 (λ L. fits n (ledger_of entries L))

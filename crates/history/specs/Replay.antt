@@ -8,7 +8,7 @@ use Rattle.tree.specs.Lists.{Entry, calls_of}
 use Rattle.tree.specs.Demand3.{Demand3}
 use Rattle.tree.specs.Record.{tree_of}
 use Rattle.plan.specs.declared.ask.OwnerAnswer.{OwnerAnswer}
-use Rattle.plan.specs.Meets.{empty_plan, Meets}
+use Rattle.plan.specs.Meets.{empty_plan}
 use Rattle.history.specs.Ran.{Ran, NamesOwner, TellsRest}
 use Rattle.history.specs.Sheets.{SheetFor}
 
@@ -33,12 +33,6 @@ answer_number (refused n) = 131072 + n
 unfoldable pub answer_numbers : List Entry → List ℕ
 answer_numbers [] = []
 answer_numbers (x ∷ xs) = answer_number x.answer ∷ answer_numbers xs
-
--- a call on a plan gave this number and this plan, as the call's contract allows
-pub record CallRan (c : Call) (plan : Plan) (number : ℕ) (after : Plan) : Type 0 where
-  pub answer : Answer
-  pub number_is : number ≡ answer_number answer
-  pub meets : Meets c plan answer after
 
 -- The first `count` calls were run from the empty plan and left `plan`; their answers stand in front in the buffer, which is as it was behind them.
 pub record RanFirst (numbers before after : List ℕ) (count : ℕ) (plan : Plan) : Type 0 where
