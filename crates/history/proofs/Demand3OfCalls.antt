@@ -51,7 +51,7 @@ ran_from (x ∷ xs) first last ran =
     let meets = ran.1 in
     let handed = returned_is_handed_on x.call first x.answer ran.0 meets in
     let next : tree_of (handed_on x.answer first ran.0) ≡ after x.call (tree_of first) = ap tree_of (handed ∙ meets.plan_is) ∙ plan_after_tree x.call first in
-    let later = subst (λ (t : Tree). ByTheRules t xs (tree_of last)) next (ran_from xs (handed_on x.answer first ran.0) last ran.2) in
+    let later = rw next at (ran_from xs (handed_on x.answer first ran.0) last ran.2) in
     record { answers = λ i. record { call = x.call; answer = meets.answer_is i } ∷ later.answers i; tree = later.tree }
 
 -- Demand 3
@@ -65,7 +65,7 @@ rules_demand_3 entries t rules =
 pub demand_3_of_calls : Demand3OfCalls
 unfolding Demand3OfCalls
 demand_3_of_calls entries plan ran =
-    rules_demand_3 entries (tree_of plan) (subst (λ (t : Tree). ByTheRules t entries (tree_of plan)) empty_tree (ran_from entries empty_plan plan ran))
+    rules_demand_3 entries (tree_of plan) (rw empty_tree at (ran_from entries empty_plan plan ran))
 
 -- The owner call
 

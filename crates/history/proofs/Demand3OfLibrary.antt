@@ -2,7 +2,7 @@
 -- Assumes nothing.
 use Prim.Native.Nat.{ℕ, zero, suc, ◌+◌, ◌<◌, ◌≤◌}
 use native.Mathlib.Omega.{arith}
-use mathlib.Core.Path.{◌≡◌, refl, sym, ◌∙◌, ap, subst}
+use mathlib.Core.Path.{◌≡◌, refl, sym, ◌∙◌, ap}
 use mathlib.Core.Logic.{◌↔◌}
 use mathlib.Core.List.{List, [], ◌∷◌}
 use Rattle.std.specs.Prelude.{Option, None, Some}
@@ -67,8 +67,7 @@ zeros_are_empty = ap (λ (plan : Plan). plan.rows) (empty_rows (replicate 1408 0
 pub demand_3_of_library : Demand3OfLibrary
 unfolding Demand3OfLibrary Demand3OfRows
 demand_3_of_library calls rows ran =
-    demand_3_of_rows (entries_told calls) rows
-    (subst (λ (first : List ℕ). RanOnRows first (entries_told calls) rows) zeros_are_empty (ran_on_rows calls (replicate 1408 0) rows ran))
+    demand_3_of_rows (entries_told calls) rows (rw zeros_are_empty at (ran_on_rows calls (replicate 1408 0) rows ran))
 
 -- The owner call
 
@@ -76,25 +75,18 @@ demand_3_of_library calls rows ran =
 line_below : (round : ℕ) (rows : List ℕ) (M : ℕ) → owner_or_rest round (tree_of_rows rows) ≡ owned_by M → M < 64
 line_below round rows M answered = owner_below_64 round (tree_of_rows rows) M (legal_on_record rows) ((owned_exactly round (tree_of_rows rows) M).0 answered)
 
-module _ (o : OwnerOrRest) (below : (M : ℕ) → o ≡ owned_by M → M < 64) where
-  -- the number for an owner names line L exactly when that owner is L: 64 and more, which stand for none, are no lines
-  line_is_told : (L : ℕ) → ((answer_number (gives (owner_value o)) ≡ pos L) × (L ≤ 63)) ↔ (o ≡ owned_by L)
-  unfolding answer_number owner_value
-  line_is_told L = by_answer o below
-    where
-      by_answer : (o : OwnerOrRest) → ((M : ℕ) → o ≡ owned_by M → M < 64) → ((pos (owner_value o) ≡ pos L) × (L ≤ 63)) ↔ (o ≡ owned_by L)
-      by_answer (owned_by M) below = (λ told. cc, λ owned. (cc, let small = below L owned in omega arith))
-      by_answer (idle_for g) below =
-          (λ told. let idle : 64 + g ≡ L = cc in absurd (omega arith), λ owned. let z : ◌≡◌ {A = ℕ} 0 1 = cc in absurd (omega arith))
+-- the number for an owner names line L exactly when that owner is L: 64 and more, which stand for none, are no lines
+line_is_told : (o : OwnerOrRest) → ((M : ℕ) → o ≡ owned_by M → M < 64) → (L : ℕ) → ((answer_number (gives (owner_value o)) ≡ pos L) × (L ≤ 63)) ↔ (o ≡ owned_by L)
+unfolding answer_number owner_value
+line_is_told (owned_by M) below L = (λ told. cc, λ owned. (cc, let small = below L owned in omega arith))
+line_is_told (idle_for g) below L =
+    (λ told. let idle : 64 + g ≡ L = cc in absurd (omega arith), λ owned. let z : ◌≡◌ {A = ℕ} 0 1 = cc in absurd (omega arith))
 
-  -- and one that is 64 and g tells the rest g
-  rest_is_told : (g : ℕ) → answer_number (gives (owner_value o)) ≡ pos (64 + g) → o ≡ idle_for g
-  unfolding answer_number owner_value
-  rest_is_told g = by_answer o below
-    where
-      by_answer : (o : OwnerOrRest) → ((M : ℕ) → o ≡ owned_by M → M < 64) → pos (owner_value o) ≡ pos (64 + g) → o ≡ idle_for g
-      by_answer (owned_by M) below told = let idle : M ≡ 64 + g = cc in absurd (omega (arith, below M refl))
-      by_answer (idle_for h) below told = let same : 64 + h ≡ 64 + g = cc in ap idle_for (omega arith)
+-- and one that is 64 and g tells the rest g
+rest_is_told : (o : OwnerOrRest) → ((M : ℕ) → o ≡ owned_by M → M < 64) → (g : ℕ) → answer_number (gives (owner_value o)) ≡ pos (64 + g) → o ≡ idle_for g
+unfolding answer_number owner_value
+rest_is_told (owned_by M) below g told = let idle : M ≡ 64 + g = cc in absurd (omega (arith, below M refl))
+rest_is_told (idle_for h) below g told = let same : 64 + h ≡ 64 + g = cc in ap idle_for (omega arith)
 
 pub owner_of_library : OwnerOfLibrary
 unfolding OwnerOfLibrary Demand3OfLibrary owner_outcome

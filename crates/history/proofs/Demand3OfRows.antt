@@ -1,7 +1,6 @@
 -- Demand 3 of the calls on a lent record (specs/RanOnRows.antt): a list that was run on a record was run on the plan with that record, by value.
 -- Assumes nothing.
 use Prim.Native.Nat.{ℕ}
-use mathlib.Core.Path.{sym, subst}
 use mathlib.Core.List.{List, [], ◌∷◌}
 use Rattle.tree.specs.declared.Plan.{Plan}
 use Rattle.tree.specs.Lists.{Entry}
@@ -19,7 +18,7 @@ ran_by_value (x ∷ xs) first last ran =
     let returned : Plan = record { rows = ran.0 } in
     let meets = carried_meets x.call (record { rows = first }) ran.0 x.answer ran.1 in
     let handed = returned_is_handed_on x.call (record { rows = first }) x.answer returned meets in
-    (returned, meets, subst (λ (next : Plan). Ran next xs (record { rows = last })) (sym handed) (ran_by_value xs ran.0 last ran.2))
+    (returned, meets, rw handed (ran_by_value xs ran.0 last ran.2))
 
 pub demand_3_of_rows : Demand3OfRows
 unfolding Demand3OfRows Demand3OfCalls tree_of_rows

@@ -3,7 +3,8 @@
 use Rattle.std.specs.Prelude.{if◌then◌else◌}
 use Prim.Native.Nat.{ℕ, zero, suc, ◌+◌, ◌<◌}
 use native.Mathlib.Numerals.{add-one}
-use mathlib.Core.Path.{◌≡◌, refl, sym, ◌∙◌, ap, subst}
+use native.Mathlib.Omega.{arith}
+use mathlib.Core.Path.{◌≡◌, refl, sym, ◌∙◌, ap}
 use mathlib.Core.List.{List, [], ◌∷◌, ◌++◌, append_assoc, map}
 use lib.Dec.{ltb}
 use lib.ListN.{length, drop, get_or, set, length-append}
@@ -32,14 +33,14 @@ use Rattle.history.proofs.SheetOfCalls.{sheet_of_calls}
 
 -- One call more
 
-module _ (x : Entry) where
-  ran_more : (xs : List Entry) (first last returned : Plan) → Ran first xs last → Meets x.call last x.answer returned → Ran first (xs ++ (x ∷ [])) returned
-  unfolding Ran
-  ran_more [] first last returned ran meets =
-      let here = subst (λ (plan : Plan). Meets x.call plan x.answer returned) ran meets in
-      (returned, here, sym (returned_is_handed_on x.call first x.answer returned here))
-  ran_more (y ∷ ys) first last returned ran meets =
-      (ran.0, ran.1, ran_more ys (handed_on y.answer first ran.0) last returned ran.2 meets)
+ran_more : (x : Entry) (xs : List Entry) (first last returned : Plan) → Ran first xs last → Meets x.call last x.answer returned → Ran first (xs ++ (x ∷ [])) returned
+unfolding Ran
+ran_more x [] first last returned ran meets =
+    let here = rw ran at meets in
+    (returned, here, sym (returned_is_handed_on x.call first x.answer returned here))
+ran_more x (y ∷ ys) first last returned ran meets = (ran.0, ran.1, ran_more x ys (handed_on y.answer first ran.0) last returned ran.2 meets)
+
+-- calls and numbers of a list, entry by entry
 
 abbrev call_in : Entry → Call
 call_in x = x.call
@@ -58,8 +59,7 @@ numbers_mapped = same_from_clauses answer_numbers (map number_in) (λ x. ◌∷�
 first_calls_length : (numbers : List ℕ) (n : ℕ) → length (first_calls numbers n) ≡ n
 unfolding first_calls
 first_calls_length numbers zero = refl
-first_calls_length numbers (suc n) =
-    length-append (first_calls numbers n) (call_at numbers n ∷ []) ∙ ap (λ (k : ℕ). k + 1) (first_calls_length numbers n) ∙ add-one n
+first_calls_length numbers (suc n) = omega (arith, length-append (first_calls numbers n) (call_at numbers n ∷ []), first_calls_length numbers n)
 
 module _ (numbers before : List ℕ) where
   pub no_call_run : RanFirst numbers before before 0 empty_plan
@@ -85,32 +85,24 @@ module _ (numbers before : List ℕ) where
         ran = ran_more x xs empty_plan plan next so_far.ran meets;
       }
 
--- The owner call on the plan that was left
+-- The owner call and the sheet call on the plan that was left
 
-pub owner_after_replay : (numbers before after : List ℕ) (count : ℕ) (plan : Plan) → Replays numbers before after count plan →
-    (round : ℕ) (a : OwnerAnswer) → owner_answer a ≡ owner_or_rest round (tree_of plan) → ReplaysAndOwns numbers before after round a
-unfolding OwnerOfCalls RestOfCalls
-owner_after_replay numbers before after count plan replays round a asked =
-    record {
-      count = count;
-      plan = plan;
-      replays = replays;
-      names_owner = owner_of_calls replays.first.entries plan replays.first.ran round a asked;
-      tells_rest = rest_of_calls replays.first.entries plan replays.first.ran round a asked;
-    }
+module _ (numbers before after : List ℕ) (count : ℕ) (plan : Plan) (replays : Replays numbers before after count plan) where
+  pub owner_after_replay : (round : ℕ) (a : OwnerAnswer) → owner_answer a ≡ owner_or_rest round (tree_of plan) → ReplaysAndOwns numbers before after round a
+  unfolding OwnerOfCalls RestOfCalls
+  owner_after_replay round a asked =
+      record {
+        count = count;
+        plan = plan;
+        replays = replays;
+        names_owner = owner_of_calls replays.first.entries plan replays.first.ran round a asked;
+        tells_rest = rest_of_calls replays.first.entries plan replays.first.ran round a asked;
+      }
 
--- The sheet call on the plan that was left
-
-pub sheet_after_replay : (numbers before after : List ℕ) (count : ℕ) (plan : Plan) → Replays numbers before after count plan →
-    (a N : ℕ) (s : Sheet) → s ≡ sheet a N (tree_of plan) → ReplaysAndAddsUp numbers before after a N s
-unfolding SheetOfCalls
-sheet_after_replay numbers before after count plan replays a N s asked =
-    record {
-      count = count;
-      plan = plan;
-      replays = replays;
-      sheet_for = sheet_of_calls replays.first.entries plan replays.first.ran a N s asked;
-    }
+  pub sheet_after_replay : (a N : ℕ) (s : Sheet) → s ≡ sheet a N (tree_of plan) → ReplaysAndAddsUp numbers before after a N s
+  unfolding SheetOfCalls
+  sheet_after_replay a N s asked =
+      record { count = count; plan = plan; replays = replays; sheet_for = sheet_of_calls replays.first.entries plan replays.first.ran a N s asked }
 
 -- A period above 4,095
 

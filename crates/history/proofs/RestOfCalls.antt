@@ -2,14 +2,14 @@
 -- library is in Demand3OfLibrary.antt.
 -- Assumes nothing.
 use Prim.Native.Nat.{ℕ, ◌+◌}
-use mathlib.Core.Path.{◌≡◌, sym, ◌∙◌, ap, subst}
+use mathlib.Core.Path.{◌≡◌, sym, ◌∙◌, ap}
 use mathlib.Core.Bool.{true, false, true≢false, not-eq-not}
 use mathlib.Core.List.{List}
 use Rattle.std.specs.Prelude.{Some}
 use Rattle.tree.specs.Search.{found}
 use Rattle.tree.specs.Tree.{Tree, present}
 use Rattle.tree.specs.Shape.{Legal}
-use Rattle.tree.specs.Asking.{owner, owned, IsRest, idle_for, owner_or_rest}
+use Rattle.tree.specs.Asking.{owner, owned, idle_for, owner_or_rest}
 use Rattle.tree.specs.Lists.{Booking, Entry, ledger_of, RoundFits}
 use Rattle.tree.specs.Demand3.{SomeOpen, Demand3}
 use Rattle.tree.specs.Record.{tree_of}
@@ -47,7 +47,7 @@ module _ (entries : List Entry) (t : Tree) (is_legal : Legal t) (claim : Demand3
   unfolding owned found
   rest_by_ledger round g told =
       let idle = (idle_exactly round t g).0 told in
-      let is_rest = subst (IsRest round t) idle.1 (rest_is_rest t is_legal round) in
+      let is_rest = rw idle.1 at (rest_is_rest t is_legal round) in
       let zero_where_empty = rest_0_exactly t is_legal round idle.0 in
       record {
         zero_exactly = (

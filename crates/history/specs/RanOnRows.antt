@@ -1,4 +1,4 @@
--- Demand 3 of the calls on a lent record, `open_rows`, `close_rows` and `owner_rows` of crate plan: the lists that can be run, and the claim about each.
+-- Demand 3 of the calls on a lent record, `open_rows`, `close_rows` and `owner` of crate plan: the lists that can be run, and the claim about each.
 -- What a call answers and leaves in the record is what its contract allows (`CarriedOut` of crate bridge). The claim itself is `Demand3` of crate tree.
 -- Assumes nothing.
 use Rattle.std.specs.Prelude.{ℕ, ◌≡◌, List, [], ◌∷◌}
