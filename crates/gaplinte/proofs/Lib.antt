@@ -2,5 +2,4 @@ pub mod Answering
 pub mod Serving
 pub mod ValuesBelow
 pub mod RowsWritten
-pub mod SheetWritten
 pub mod Told

@@ -1,19 +1,32 @@
-// The number that a call answers: its value, or minus the number of a refusal.
-ghost use Rattle.std.specs.Prelude.{◌<◌, ◌^◌};
-ghost use Rattle.tree.specs.Calls.{gives, refuses};
-ghost use Rattle.gaplinte.specs.Answer.{IsAnswer};
+// The number that a call answers, by what it gave or why it was refused.
+ghost use Rattle.std.specs.Prelude.{◌≡◌, ◌<◌, ◌^◌, IfOk, MatchResult};
+ghost use Rattle.tree.specs.Answered.{outcome_of};
+ghost use Rattle.gaplinte.specs.Answer.{IsAnswer, zero_value};
 
-// A value as an answer. It has to stay a number that is not negative.
-pub(crate) fn value(number: u64) -> i64
-    requires { number < 2 ^ 63 }
-    ensures { IsAnswer (gives number) result }
+use tree::refusal::Refusal;
+
+// The value, or minus the number of the refusal. That a value stays below 2^63 is asked here and by no type, since owner and
+// turns give numbers of 64 bits.
+pub(crate) fn number(outcome: Result<u64, Refusal>) -> i64
+    requires { IfOk outcome (λ value. value < 2 ^ 63) }
+    ensures { IsAnswer (outcome_of (λ value. value) outcome) result }
 {
-    number as i64
+    match outcome {
+        Ok(value) => value as i64,
+        Err(refusal) => -i64::from(u8::from(refusal)),
+    }
 }
 
-// Minus the number of a refusal.
-pub(crate) fn refused(number: u8) -> i64
-    ensures { IsAnswer (refuses number) result }
+// The same of a call that writes what it gives into the record lent, which stays as found where the call is refused.
+pub(crate) fn write<A: Copy>(lent: &mut A, outcome: Result<A, Refusal>) -> i64
+    ensures answer { IsAnswer (zero_value (outcome_of (λ given. given) outcome)) result }
+    ensures left { MatchResult outcome (λ given. lent.new ≡ given) (λ _. lent.new ≡ lent.old) }
 {
-    -(number as i64)
+    match outcome {
+        Ok(given) => {
+            *lent = given;
+            number(Ok(0))
+        }
+        Err(refusal) => number(Err(refusal)),
+    }
 }

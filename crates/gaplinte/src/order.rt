@@ -1,20 +1,28 @@
 // The calls that pack an order into three bytes, and read three bytes.
-ghost use Rattle.gaplinte.specs.OrdersServed.{PackServed, ReadServed};
+ghost use Rattle.std.specs.Prelude.{◌≡◌, ◌<◌};
+ghost use Rattle.orders.specs.Reading.{line_of, call_told};
+ghost use Rattle.gaplinte.specs.OrdersServed.{PackServed, call_numbers, ReadServed};
 
 use crate::answers;
-use orders::{Bytes, Packed, Reading};
+use orders::{Bytes, Order};
 
 // Packs an order. A period of any size is checked whole.
 pub fn gaplinte_pack(kind: u64, line: u64, period: u64, order: &mut [u8; 3]) -> i64
     ensures { PackServed kind line period order.old order.new result }
 {
     let packed = orders::pack(kind, line, tree::period_asked(period));
-    match packed {
-        Packed::Order(bytes) => {
-            *order = [bytes.0, bytes.1, bytes.2];
-            answers::value(0)
-        }
-        Packed::Refused(number) => answers::refused(number),
+    answers::write(order, packed.map(<[u8; 3]>::from))
+}
+
+// Kind, line and period of an order. A close has period 0. That the line has 6 bits is asked here, since an order holds it
+// as a number of 64 bits.
+fn call_numbers(order: Order) -> [u16; 3]
+    requires { line_of (call_told order) < 64 }
+    ensures { result ≡ call_numbers (call_told order) }
+{
+    match order {
+        Order::Open(line, period) => [0, line as u16, period.0],
+        Order::Close(line) => [1, line as u16, 0],
     }
 }
 
@@ -22,16 +30,6 @@ pub fn gaplinte_pack(kind: u64, line: u64, period: u64, order: &mut [u8; 3]) -> 
 pub fn gaplinte_read(order: &[u8; 3], call: &mut [u16; 3]) -> i64
     ensures { ReadServed order.now call.old call.new result }
 {
-    let reading = orders::read(Bytes(order[0], order[1], order[2]));
-    match reading {
-        Reading::Open(line, period) => {
-            *call = [0, line as u16, period.0];
-            answers::value(0)
-        }
-        Reading::Close(line) => {
-            *call = [1, line as u16, 0];
-            answers::value(0)
-        }
-        Reading::Refused(number) => answers::refused(number),
-    }
+    let found = orders::read(Bytes::from(*order));
+    answers::write(call, found.map(call_numbers))
 }

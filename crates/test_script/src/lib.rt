@@ -1,80 +1,90 @@
-// What the test programs share: the numbers of a step of a script, printing, and the steps that two programs have.
-// It is for tests and promises only that it is safe and ends, since what is printed is compared.
+// What the test programs share: the steps of a script, the loop over them, and the steps that two programs have.
+// It is for tests and promises only that it is safe and ends. That something cannot be printed is not reported: what is
+// printed is compared.
 #![tactic(auto)]
 
-ghost use Rattle.std.specs.Prelude.{◌+◌, ◌<◌, ◌≤◌};
-
 use plan::ask::OwnerAnswer;
+use std::io::Read;
 use tree::Plan;
 
-// The 8 bytes from a place on, as a number, the most significant first.
-fn number(step: &[u8; 25], from: usize) -> u64
-    requires { from + 8 ≤ 25 }
-{
-    let mut value: u64 = 0;
-    let mut k = 0;
-    while k < 8 {
-        value = value % 72057594037927936 * 256 + wide(step[from + k]);
-        k += 1;
+// More steps than a script has are not read.
+const MOST_STEPS: usize = 1000000;
+
+// A step of a script, which is 25 bytes: a kind, then three numbers, the most significant byte first.
+#[derive(Clone, Copy)]
+pub struct Step {
+    pub kind: u8,
+    pub numbers: [u64; 3],
+}
+
+impl From<[u8; 25]> for Step {
+    fn from(bytes: [u8; 25]) -> Step {
+        let (numbers, _) = bytes[1..].as_chunks::<8>();
+        Step {
+            kind: bytes[0],
+            numbers: [
+                u64::from_be_bytes(numbers[0]),
+                u64::from_be_bytes(numbers[1]),
+                u64::from_be_bytes(numbers[2]),
+            ],
+        }
     }
-    value
 }
 
-fn wide(byte: u8) -> u64
-    ensures { result < 256 }
+// The next step, or none at the end of the script.
+fn next_step(script: &mut impl Read) -> Option<Step> {
+    let mut bytes = [0; 25];
+    script.read_exact(&mut bytes).ok()?;
+    Some(Step::from(bytes))
+}
+
+// Runs the steps of a script in turn, the first on the empty plan. A step may read on in the script; it gives the plan after
+// it, or none where the script ends within it.
+pub fn run_script<R: Read, F: FnMut(&mut R, Plan, Step) -> Option<Plan>>(
+    script: &mut R,
+    mut run_step: F,
+)
+    requires { F.IsAlwaysCallable run_step }
 {
-    byte as u64
+    let mut plan = plan::change::empty();
+    for _ in 0..MOST_STEPS {
+        let Some(step) = next_step(script) else {
+            return;
+        };
+        let Some(after) = run_step(script, plan, step) else {
+            return;
+        };
+        plan = after;
+    }
 }
 
-// The first number of a step, which is a kind of one byte and three numbers.
-pub fn first_number(step: &[u8; 25]) -> u64 {
-    number(step, 1)
-}
-
-pub fn second_number(step: &[u8; 25]) -> u64 {
-    number(step, 9)
-}
-
-pub fn third_number(step: &[u8; 25]) -> u64 {
-    number(step, 17)
-}
-
-// That a text or a number cannot be written is not reported: what is printed is compared.
-pub fn text(rt: &impl Print, words: &[u8]) {
-    let _ = rt.write_all(words);
-}
-
-pub fn decimal(rt: &impl Print, value: u64) {
-    let _ = rt.print(value);
+// The empty plan again.
+pub fn begin(rt: &impl Print) -> Plan {
+    let _ = println!(rt; "plan");
+    plan::change::empty()
 }
 
 // A number of the record, written over.
-pub fn write_number(rt: &impl Print, current: Plan, place: u64, number: u64) -> Plan {
-    text(rt, b"write ");
-    decimal(rt, place);
-    text(rt, b" ");
-    decimal(rt, number);
-    text(rt, b"\n");
-    let mut damaged = current;
-    if place < 1408 && number < 65536 {
-        damaged.rows[place as usize] = number as u16;
+pub fn write_number(rt: &impl Print, mut plan: Plan, place: u64, number: u64) -> Plan {
+    let _ = println!(rt; "write {place} {number}");
+    if let Some(found) = plan.rows.get_mut(place as usize)
+        && let Ok(number) = u16::try_from(number)
+    {
+        *found = number;
     }
-    damaged
+    plan
 }
 
-// That a round is idle, and its rest.
-pub fn idle(rt: &impl Print, rest: u16) {
-    text(rt, b"idle ");
-    decimal(rt, rest as u64);
+// The owner of a round, or that it is idle, and its rest.
+pub fn print_owner(rt: &impl Print, owner: OwnerAnswer) {
+    let _ = match owner {
+        OwnerAnswer::Line(line) => print!(rt; "{line}"),
+        OwnerAnswer::Idle(rest) => print!(rt; "idle {rest}"),
+    };
 }
 
-pub fn run_owner(rt: &impl Print, current: Plan, round: u64) {
-    text(rt, b"owner ");
-    decimal(rt, round);
-    text(rt, b" ");
-    match plan::ask::owner(current, round) {
-        OwnerAnswer::Line(line) => decimal(rt, line),
-        OwnerAnswer::Idle(rest) => idle(rt, rest),
-    }
-    text(rt, b"\n");
+pub fn run_owner(rt: &impl Print, plan: &Plan, round: u64) {
+    let _ = print!(rt; "owner {round} ");
+    print_owner(rt, plan::ask::owner(plan, round));
+    let _ = println!(rt);
 }

@@ -1,14 +1,25 @@
 -- `gaplinte::change::gaplinte_close` meets its contract, by that of `plan::change::close_rows`.
 -- Assumes nothing.
+use Rattle.std.specs.Prelude.{Result, Ok, Err}
+use mathlib.Core.Path.{◌≡◌, refl, ◌∙◌, ap}
+use borrow.Author.Rules.{rules}
+use Rattle.tree.specs.declared.refusal.Refusal.{Refusal}
+use Rattle.tree.specs.Answered.{outcome_of}
 use Rattle.lines.specs.Answers.{close_answer}
 use Rattle.gaplinte.specs.Served.{change_outcome}
-use Rattle.gaplinte.proofs.Serving.{close_served}
+use Rattle.gaplinte.proofs.Serving.{valued}
 use Rattle.gaplinte.proofs.change.gaplinte_close.Goals as goal
 
-pub returns-in-Done : goal.returns-in-Done
-unfolding change_outcome close_answer
-returns-in-Done c = close_served _ _ _ _ _ _ c.close_rows-answer.ensures c.in-Done.is c.value.ensures
+-- the value is 0
+zero_told : (r : Result Unit Refusal) → outcome_of (λ u. 0) r ≡ change_outcome (close_answer r)
+unfolding outcome_of close_answer change_outcome
+zero_told (Ok u) = refl
+zero_told (Err e) = refl
 
-pub returns-in-Refused : goal.returns-in-Refused
-unfolding change_outcome close_answer
-returns-in-Refused c = close_served _ _ _ _ _ _ c.close_rows-answer.ensures c.in-Refused.is c.refused.ensures
+pub returns : goal.returns
+returns c =
+    let carried = c.close_rows-closed.ensures in
+    record {
+      answer_is = valued _ _ _ c.map.ensures.cases (λ u n p. search rules) (zero_told _ ∙ ap change_outcome carried.answer_is) c.number.ensures;
+      rows_are = carried.rows_are;
+    }

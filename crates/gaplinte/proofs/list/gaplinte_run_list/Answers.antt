@@ -1,15 +1,27 @@
 -- `gaplinte::list::gaplinte_run_list` meets its contract, by that of `lists::run_list_rows`.
 -- Assumes nothing.
+use Rattle.std.specs.Prelude.{Result, Ok, Err}
+use mathlib.Core.Path.{◌≡◌, refl, ◌∙◌, ap}
+use borrow.Author.Rules.{rules}
+use Rattle.tree.specs.declared.refusal.Refusal.{Refusal}
 use Rattle.tree.specs.Calls.{gives_unless}
+use Rattle.tree.specs.Answered.{outcome_of}
 use Rattle.lists.specs.Runs.{refusal_in}
 use Rattle.gaplinte.specs.Served.{list_outcome}
-use Rattle.gaplinte.proofs.Serving.{list_served}
+use Rattle.gaplinte.proofs.Serving.{valued}
 use Rattle.gaplinte.proofs.list.gaplinte_run_list.Goals as goal
 
-pub returns-in-Done : goal.returns-in-Done
-unfolding list_outcome gives_unless refusal_in
-returns-in-Done c = list_served _ _ _ _ _ _ _ _ c.run_list_rows-answer.ensures c.in-Done.is c.value.ensures
+-- the value is 0
+zero_told : (r : Result Unit Refusal) → outcome_of (λ u. 0) r ≡ list_outcome (refusal_in r)
+unfolding outcome_of list_outcome gives_unless refusal_in
+zero_told (Ok u) = refl
+zero_told (Err e) = refl
 
-pub returns-in-Refused : goal.returns-in-Refused
-unfolding list_outcome gives_unless refusal_in
-returns-in-Refused c = list_served _ _ _ _ _ _ _ _ c.run_list_rows-answer.ensures c.in-Refused.is c.refused.ensures
+pub returns : goal.returns
+returns c =
+    let ran = c.run_list_rows-ran.ensures in
+    record {
+      answer_is = valued _ _ _ c.map.ensures.cases (λ u n p. search rules) (zero_told _ ∙ ap list_outcome ran.refusal_is) c.number.ensures;
+      rows_are = λ i. (ran.plan_is i).rows;
+      bytes_are = ran.bytes_are;
+    }

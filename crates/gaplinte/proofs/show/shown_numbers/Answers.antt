@@ -1,15 +1,13 @@
-use native.Mathlib.Omega.{arith}
-use mathlib.Core.Path.{refl}
-use lib.ListN.{replicate, length-set}
 use borrow.Author.Rules.{rules}
-use Rattle.gaplinte.proofs.RowsWritten.{no_rows, rows_more, rows_all}
+use Rattle.plan.specs.Ask.{shown_in}
+use Rattle.gaplinte.proofs.RowsWritten.{no_rows_written, row_more_written, rows_written}
 use Rattle.gaplinte.proofs.show.shown_numbers.Goals as goal
 
 pub loop-k-init : goal.loop-k-init
-loop-k-init c = no_rows _ _ (search rules) (simp length-set)
+loop-k-init c = no_rows_written (shown_in c.args.line)
 
 pub loop-k-preserved : goal.loop-k-preserved
-loop-k-preserved c = rows_more _ c.loop-k.invariant (omega (arith, c.loop-k-test.true))
+loop-k-preserved c = row_more_written (shown_in c.args.line) c.loop-k.invariant c.loop-k-test.true
 
 pub returns : goal.returns
-returns c = rows_all _ (replicate 24 0) _ _ _ _ c.loop-k.invariant refl c.loop-k-test.false
+returns c = rows_written (shown_in c.args.line) c.loop-k.invariant c.loop-k-test.false (search rules)
