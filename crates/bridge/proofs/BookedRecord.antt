@@ -1,12 +1,11 @@
 -- The record of an opened tree: what the code writes into the record of the tree before (`booked_at` of crate paths, specs/Rules.antt).
 -- Assumes nothing.
-use Rattle.std.specs.Prelude.{if◌then◌else◌}
+use Rattle.std.specs.Prelude.{if◌then◌else◌, Option, None, Some, unwrap_or}
 use Prim.Native.Nat.{ℕ, ◌+◌, ◌*◌, ◌/◌, ◌<◌}
 use native.Mathlib.Omega.{arith}
 use mathlib.Core.Path.{◌≡◌, refl, sym, ◌∙◌, ap, subst}
 use mathlib.Core.Bool.{Bool, true, false, true≢false}
 use mathlib.Core.List.{List, []}
-use Rattle.std.specs.Prelude.{Option, None, Some, unwrap_or}
 use lib.Dec.{ltb}
 use lib.ListN.{length, take}
 use Rattle.tree.specs.declared.Row.{Row}

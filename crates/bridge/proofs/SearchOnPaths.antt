@@ -1,10 +1,9 @@
 -- The search over the paths (`best_of_lines` of crate paths, specs/Rules.antt) finds the chosen candidate of the tree, and none only where none is chosen.
 -- Assumes nothing.
-use Rattle.std.specs.Prelude.{if◌then◌else◌}
+use Rattle.std.specs.Prelude.{if◌then◌else◌, None, Some}
 use Prim.Native.Nat.{ℕ, ◌<◌}
 use mathlib.Core.Path.{◌≡◌, refl, sym, ◌∙◌, ap, subst}
 use mathlib.Core.Bool.{true, false, false≢true, not-eq-not, and-eq-true_iff}
-use Rattle.std.specs.Prelude.{None, Some}
 use lib.ListN.{length, take}
 use Rattle.tree.specs.Numbers.{divides}
 use Rattle.tree.specs.Search.{found}

@@ -1,11 +1,10 @@
 -- Two paths through one node of a tree have the same rows above it and the same offer there, so a node is searched once.
 -- Assumes nothing.
-use Rattle.std.specs.Prelude.{if◌then◌else◌}
+use Rattle.std.specs.Prelude.{if◌then◌else◌, Option, None, Some, option_map}
 use Prim.Native.Nat.{ℕ, zero, suc, ◌<◌}
 use mathlib.Core.Path.{◌≡◌, refl}
 use mathlib.Core.Bool.{Bool, true, false, false≢true, and-eq-true_iff}
 use mathlib.Core.List.{List, [], ◌∷◌}
-use Rattle.std.specs.Prelude.{Option, None, Some, option_map}
 use Rattle.tree.proofs.Options.{some-none}
 use lib.Dec.{eqb}
 use lib.ListN.{take}

@@ -1,7 +1,6 @@
 -- What the searches of this crate answer, as the definitions over paths have it (crate paths, specs/Rules.antt).
 -- Assumes nothing.
-use Rattle.std.specs.Prelude.{ℕ, ◌≤◌, ◌≡◌, Bool, true, length, take}
-use Rattle.std.specs.Prelude.{Option, None, Some, option_map}
+use Rattle.std.specs.Prelude.{ℕ, ◌≤◌, ◌≡◌, Bool, true, length, take, Option, None, Some, option_map}
 use Rattle.tree.specs.Search.{some_below}
 use Rattle.tree.specs.Tree.{product, sum, Place}
 use Rattle.tree.specs.Opening.{before}

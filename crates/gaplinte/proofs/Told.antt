@@ -1,12 +1,11 @@
 -- An answer of a call tells its outcome, since no refusal is 0: the calls refuse with 1 to 9 alone, and every value is below 2^32.
 -- Assumes nothing.
-use Rattle.std.specs.Prelude.{if◌then◌else◌}
+use Rattle.std.specs.Prelude.{if◌then◌else◌, Option, None, Some}
 use Prim.Native.Nat.{ℕ, zero, suc, ◌-◌, ◌^◌, ◌%◌, ◌<◌, ◌≤◌}
 use native.Mathlib.Omega.{arith}
 use mathlib.Core.Path.{◌≡◌, refl, ◌∙◌, ap}
 use mathlib.Core.Bool.{Bool, true, false, not}
 use mathlib.Core.List.{List}
-use Rattle.std.specs.Prelude.{Option, None, Some}
 use lib.IntN.{ℤ, negsuc}
 use lib.ListN.{length}
 use mir.Syntax.{Width, w8, w16, w32, w64, w128}

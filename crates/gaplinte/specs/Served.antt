@@ -1,7 +1,6 @@
 -- What each call of the library gives, for every record and every number.
 -- Assumes nothing.
-use Rattle.std.specs.Prelude.{ℕ, ◌+◌, ◌≡◌, List, [], ◌∷◌, ◌++◌, ℤ, length, get_or, if◌then◌else◌}
-use Rattle.std.specs.Prelude.{Option}
+use Rattle.std.specs.Prelude.{ℕ, ◌+◌, ◌≡◌, List, [], ◌∷◌, ◌++◌, ℤ, length, get_or, if◌then◌else◌, Option}
 use Rattle.tree.specs.declared.Sheet.{Sheet}
 use Rattle.tree.specs.Asking.{OwnerOrRest, owned_by, idle_for, owner_or_rest, Shown}
 use Rattle.tree.specs.Sheet.{sheet}

@@ -1,8 +1,7 @@
 -- Demand 3 of a list of orders that is run on the empty plan by `lists::run_list`: the orders that can be read are a list of demand 3.
 -- What the list leaves in the plan and in the lent bytes is what its contract allows (`ListRan` of crate lists).
 -- Assumes nothing.
-use Rattle.std.specs.Prelude.{ℕ, ◌*◌, ◌≡◌, List, [], ◌∷◌, ◌++◌, length, drop}
-use Rattle.std.specs.Prelude.{None}
+use Rattle.std.specs.Prelude.{ℕ, ◌*◌, ◌≡◌, List, [], ◌∷◌, ◌++◌, length, drop, None}
 use Rattle.tree.specs.declared.Plan.{Plan}
 use Rattle.tree.specs.declared.Sheet.{Sheet}
 use Rattle.tree.specs.Asking.{owner_or_rest}

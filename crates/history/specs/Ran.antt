@@ -2,8 +2,7 @@
 -- A call's answer and its plan are those that its contract allows (`Meets` of crate plan); the claim itself is `Demand3` of crate tree. Then the rest of an
 -- idle round after such a list (document 02, Ask 4).
 -- Assumes nothing.
-use Rattle.std.specs.Prelude.{ℕ, ◌+◌, ◌<◌, ◌≤◌, ◌≡◌, ◌↔◌, List, [], ◌∷◌}
-use Rattle.std.specs.Prelude.{Some}
+use Rattle.std.specs.Prelude.{ℕ, ◌+◌, ◌<◌, ◌≤◌, ◌≡◌, ◌↔◌, List, [], ◌∷◌, Some}
 use Rattle.tree.specs.declared.Plan.{Plan}
 use Rattle.tree.specs.Calls.{Answer, booked, done, refused}
 use Rattle.tree.specs.Asking.{owner_or_rest}

@@ -1,8 +1,7 @@
 -- Demand 3 of the exported calls `gaplinte_open`, `gaplinte_close` and `gaplinte_owner`, from an all-zero record: the lists that can be run, and the claim about each.
 -- What a call answers and leaves in the record is what its contract allows (`ChangeServed` of crate gaplinte). The claim itself is `Demand3` of crate tree.
 -- Assumes nothing.
-use Rattle.std.specs.Prelude.{ℕ, suc, ◌+◌, ◌≤◌, ◌≡◌, ◌↔◌, List, [], ◌∷◌, ℤ, pos, negsuc, replicate}
-use Rattle.std.specs.Prelude.{Some}
+use Rattle.std.specs.Prelude.{ℕ, suc, ◌+◌, ◌≤◌, ◌≡◌, ◌↔◌, List, [], ◌∷◌, ℤ, pos, negsuc, replicate, Some}
 use Rattle.tree.specs.Calls.{Call, open_line, close_line, Answer, booked, done, refused}
 use Rattle.tree.specs.Lists.{Booking, Entry, ledger_of, RoundFits}
 use Rattle.tree.specs.Demand3.{Demand3}

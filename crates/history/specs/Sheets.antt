@@ -1,8 +1,7 @@
 -- The sheet after a list of opens and closes (document 02, Ask 5): by the list's ledger it says whose each round is, and it adds up.
 -- What a list leaves and what the sheet call answers is what their contracts allow.
 -- Assumes nothing.
-use Rattle.std.specs.Prelude.{ℕ, ◌+◌, ◌%◌, ◌≡◌, Bool, false, not, List, eqb, ℤ, get_or, take, replicate, if◌then◌else◌}
-use Rattle.std.specs.Prelude.{Option, None, Some}
+use Rattle.std.specs.Prelude.{ℕ, ◌+◌, ◌%◌, ◌≡◌, Bool, false, not, List, eqb, ℤ, get_or, take, replicate, if◌then◌else◌, Option, None, Some}
 use Rattle.tree.specs.declared.Plan.{Plan}
 use Rattle.tree.specs.declared.Sheet.{Sheet}
 use Rattle.tree.specs.Search.{found, some_below, total_below, count_below}

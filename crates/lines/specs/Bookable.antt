@@ -1,7 +1,6 @@
 -- What the booking of a line rests on.
 -- Assumes nothing.
-use Rattle.std.specs.Prelude.{ℕ, ◌<◌, ◌≤◌, ◌≡◌, true, false, List, ltb, length, if◌then◌else◌}
-use Rattle.std.specs.Prelude.{Some}
+use Rattle.std.specs.Prelude.{ℕ, ◌<◌, ◌≤◌, ◌≡◌, true, false, List, ltb, length, if◌then◌else◌, Some}
 use Rattle.tree.specs.Refusals.{period_out_of_range}
 use Rattle.tree.specs.Record.{path_at, no_rows, legal}
 use Rattle.paths.specs.Rules.{row_of, Spot, best_of_lines, split_lines}

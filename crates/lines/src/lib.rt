@@ -1,4 +1,5 @@
 // Opening and closing a line in the lent array of a legal plan record. The record stays as it was where the call is refused.
+// That it is legal is a `requires` here and in `lists`, since no type can hold the array and that fact while it is written.
 #![tactic(auto)]
 
 ghost use Rattle.std.specs.Prelude.{◌≡◌, true, false};

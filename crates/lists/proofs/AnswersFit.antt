@@ -1,11 +1,10 @@
 -- An answer fits its two bytes: the result its 4 bits and the start its 12, so that no bit of either is lost.
 -- Assumes nothing.
-use Rattle.std.specs.Prelude.{if◌then◌else◌}
+use Rattle.std.specs.Prelude.{if◌then◌else◌, Option, None, Some}
 use Prim.Native.Nat.{ℕ, ◌<◌}
 use native.Mathlib.Omega.{arith}
 use mathlib.Core.Path.{◌≡◌, refl}
 use mathlib.Core.Bool.{Bool, true, false, not}
-use Rattle.std.specs.Prelude.{Option, None, Some}
 use Rattle.tree.specs.Tree.{Tree, is_open}
 use Rattle.tree.specs.Shape.{Legal}
 use Rattle.tree.specs.Opening.{opened, start_given}

@@ -1,7 +1,6 @@
 -- A list of orders run on a tree (document 01, Orders, and Who brings a refusal about).
 -- Assumes nothing.
-use Rattle.std.specs.Prelude.{ℕ, ◌*◌, ◌/◌, ◌%◌, Bool, true, false, not, ◌||◌, List, [], ◌∷◌, eqb, ltb}
-use Rattle.std.specs.Prelude.{Option}
+use Rattle.std.specs.Prelude.{ℕ, ◌*◌, ◌/◌, ◌%◌, Bool, true, false, not, ◌||◌, List, [], ◌∷◌, eqb, ltb, Option}
 use Rattle.tree.specs.Tree.{Tree}
 use Rattle.tree.specs.Refusals.{refuse, first_refusal}
 use Rattle.tree.specs.Calls.{Call, Answer, booked, done, refused, Outcome, gives, refuses, answer, after}

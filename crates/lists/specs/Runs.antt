@@ -1,7 +1,6 @@
 -- What the functions of this crate promise of a plan record, the order bytes and the lent answer bytes.
 -- Assumes nothing.
-use Rattle.std.specs.Prelude.{ℕ, ◌*◌, ◌≤◌, ◌≡◌, Bool, true, List, ◌++◌, length, drop, if◌then◌else◌}
-use Rattle.std.specs.Prelude.{Option, None, Some, Result, Ok, Err}
+use Rattle.std.specs.Prelude.{ℕ, ◌*◌, ◌≤◌, ◌≡◌, Bool, true, List, ◌++◌, length, drop, if◌then◌else◌, Option, None, Some, Result, Ok, Err}
 use Rattle.tree.specs.declared.Plan.{Plan}
 use Rattle.tree.specs.declared.Start.{Start}
 use Rattle.tree.specs.declared.refusal.Refusal.{Refusal}

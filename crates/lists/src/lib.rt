@@ -1,8 +1,7 @@
 // A list of orders run on a plan (document 01, section Orders): three bytes in and two bytes out for each order.
 #![tactic(auto)]
 
-ghost use Rattle.std.specs.Prelude.{◌≡◌, true, false, ◌+◌, ◌<◌, ◌/◌, [], ◌∷◌, ◌++◌, length, take, drop};
-ghost use Rattle.std.specs.Prelude.{None};
+ghost use Rattle.std.specs.Prelude.{◌≡◌, true, false, ◌+◌, ◌<◌, ◌/◌, [], ◌∷◌, ◌++◌, length, take, drop, None};
 ghost use Rattle.tree.specs.Record.{legal};
 ghost use Rattle.bridge.specs.Rows.{plan_of};
 ghost use Rattle.orders.specs.Order.{order_of};
@@ -124,7 +123,7 @@ pub fn run_list_rows(
     Ok(())
 }
 
-// The same with a plan by value.
+// The same with a plan by value, which is given back.
 pub fn run_list(plan: Plan, orders: &[u8], answers: &mut [u8]) -> Changed<Result<(), Refusal>>
     ensures { ListRan plan orders.now answers.old (refusal_in result.answer) result.plan answers.new }
 {

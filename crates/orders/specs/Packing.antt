@@ -1,7 +1,6 @@
 -- Packing an order (document 01, Orders, 3, and Who brings a refusal about).
 -- Assumes nothing.
-use Rattle.std.specs.Prelude.{ℕ, Bool, not, ◌&&◌, [], ◌∷◌, eqb, ltb}
-use Rattle.std.specs.Prelude.{Option}
+use Rattle.std.specs.Prelude.{ℕ, Bool, not, ◌&&◌, [], ◌∷◌, eqb, ltb, Option}
 use Rattle.tree.specs.Refusals.{refuse, first_refusal, line_above_63}
 use Rattle.tree.specs.Calls.{Outcome, gives_unless}
 use Rattle.orders.specs.declared.Bytes.{Bytes}

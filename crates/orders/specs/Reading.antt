@@ -1,7 +1,6 @@
 -- Reading an order (document 01, Orders, and Who brings a refusal about).
 -- Assumes nothing.
-use Rattle.std.specs.Prelude.{ℕ, zero, suc, Bool, not, ◌⊎◌, ◌≡◌, [], ◌∷◌, eqb}
-use Rattle.std.specs.Prelude.{Option}
+use Rattle.std.specs.Prelude.{ℕ, zero, suc, Bool, not, ◌⊎◌, ◌≡◌, [], ◌∷◌, eqb, Option}
 use Rattle.tree.specs.Refusals.{refuse, first_refusal}
 use Rattle.tree.specs.Calls.{Call, open_line, close_line, Outcome, gives_unless}
 use Rattle.orders.specs.declared.Order.{Order}

@@ -1,6 +1,6 @@
 -- Legality line by line, and what a legal record says of each line and of each two.
 -- Assumes nothing.
-use Rattle.std.specs.Prelude.{if◌then◌else◌}
+use Rattle.std.specs.Prelude.{if◌then◌else◌, None, Some}
 use Prim.Native.Nat.{ℕ, ◌<◌}
 use mathlib.Core.Path.{◌≡◌, refl, sym, ◌∙◌}
 use mathlib.Core.Bool.{Bool, true, false, ◌&&◌, or-true, and-true, and-eq-true_iff, false≢true}
@@ -10,7 +10,6 @@ use Rattle.tree.specs.declared.Row.{Row}
 use Rattle.tree.specs.Search.{all_below}
 use Rattle.tree.specs.Tree.{product}
 use Rattle.tree.specs.Record.{path_at, alone, rows_in_range, path_in_range, rest_unused, no_rows, parts, together, legal}
-use Rattle.std.specs.Prelude.{None, Some}
 use Rattle.std.proofs.lemmas.Option.{none-some, same_Some}
 use Rattle.paths.specs.Answers.{path_checked, joins_earlier, line_legal}
 use Rattle.tree.proofs.Searching.{all_below_at, all_below_each}

@@ -1,6 +1,6 @@
 -- The check of a path: the invariant of `check_rows`'s loop, and the path of a line with a root of weight 1 to itself.
 -- Assumes nothing.
-use Rattle.std.specs.Prelude.{if◌then◌else◌}
+use Rattle.std.specs.Prelude.{if◌then◌else◌, Option, None, Some}
 use Prim.Native.Nat.{ℕ, suc, ◌+◌, ◌*◌, ◌<◌, ◌≤◌, zero-le}
 use native.Mathlib.Omega.{arith}
 use native.Mathlib.Nat.{lt_of_lt_of_le, mul-le-mul_left, mul_assoc, mul-one, one-mul, zero-add}
@@ -14,7 +14,6 @@ use borrow.Author.Tests.{lt-ltb, le-ltb, le-leb, lt-leb, eq-eqb, ne_eqb}
 use Rattle.tree.specs.declared.Row.{Row}
 use Rattle.tree.specs.Tree.{product}
 use Rattle.tree.specs.Record.{row_at, path_at, rows_in_range, alone, path_in_range}
-use Rattle.std.specs.Prelude.{Option, None, Some}
 use Rattle.paths.specs.Answers.{rows_checked, path_checked}
 use Rattle.paths.proofs.PathRest.{zero_or_not, path_rest, path_rest_start, path_rest_row, path_rest_end, path_rest_none, path_rest_product}
 

@@ -13,6 +13,9 @@ use tree::line::Line;
 pub mod record;
 pub mod tree_record;
 
+// Rows and levels are numbers with a `requires`, here and in the crates above: they are counted on between a loop and a call
+// (level + 1, k - 1), where a type with the fact would be taken apart and made again.
+
 // The weight in row k of a line: of the node passed there, 0 where the row is not used.
 pub fn weight(rows: &[u16; 1408], line: Line, k: usize) -> u16
     requires { k < 11 }

@@ -1,6 +1,6 @@
 -- What the lookup of a line says of the record: a line that is found stands in a tree; where none is found, it is closed or the record is no tree.
 -- Assumes nothing.
-use Rattle.std.specs.Prelude.{if◌then◌else◌}
+use Rattle.std.specs.Prelude.{if◌then◌else◌, None, Some}
 use Prim.Native.Nat.{ℕ, ◌≤◌}
 use native.Mathlib.Omega.{arith}
 use mathlib.Core.Path.{◌≡◌, refl, ◌∙◌, ap}
@@ -13,7 +13,6 @@ use Rattle.tree.specs.Tree.{path, is_open}
 use Rattle.tree.specs.Refusals.{line_refusal}
 use Rattle.tree.specs.Record.{path_at, legal}
 use Rattle.tree.proofs.Checks.{line_refused_4}
-use Rattle.std.specs.Prelude.{None, Some}
 use Rattle.std.proofs.lemmas.Option.{none-some}
 use Rattle.paths.specs.Answers.{lookup}
 use Rattle.paths.proofs.PathLength.{lookup_nothing, lookup_at}

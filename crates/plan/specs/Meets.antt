@@ -1,7 +1,6 @@
 -- What the calls open and close promise, for every plan record, every line number and every period.
 -- Assumes nothing.
-use Rattle.std.specs.Prelude.{ℕ, ◌≡◌}
-use Rattle.std.specs.Prelude.{Option, None, Some}
+use Rattle.std.specs.Prelude.{ℕ, ◌≡◌, Option, None, Some}
 use Rattle.tree.specs.declared.Plan.{Plan}
 use Rattle.tree.specs.Tree.{nothing}
 use Rattle.tree.specs.Calls.{Call, Answer, refusal, carried_out, answer}

@@ -47,7 +47,7 @@ pub fn walk<P: PlanRecord>(plan: &P, place: WalkerPlace) -> Walked
     }
 }
 
-// The same on a place that is lent.
+// The same on a place that is lent, in the thin function that document 01 names.
 pub fn walk_lent<P: PlanRecord>(plan: &P, place: &mut WalkerPlace) -> Result<OwnerAnswer, Refusal>
     ensures { WalkedOn place.old (tree_of_rows (P.numbers plan.now)) result place.new }
 {

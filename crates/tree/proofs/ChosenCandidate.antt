@@ -1,13 +1,12 @@
 -- The search for the chosen candidate, `chosen` of specs/Opening.antt, finds the one place that is chosen, and finds none only where no node is a candidate.
 -- Assumes nothing.
-use Rattle.std.specs.Prelude.{if◌then◌else◌}
+use Rattle.std.specs.Prelude.{if◌then◌else◌, Option, None, Some, option_map}
 use Prim.Native.Nat.{ℕ, zero, suc, ◌*◌, ◌/◌, ◌%◌, ◌<◌}
 use native.Mathlib.Nat.{one-mul, mul-one, mul_assoc, mod-lt, mod-add-div}
 use native.Mathlib.Omega.{arith}
 use mathlib.Core.Path.{◌≡◌, refl, sym, ◌∙◌, ap, ap₂}
 use mathlib.Core.Bool.{Bool, true, false, false≢true, not-eq-not, and-false}
 use mathlib.Core.Logic.{inl, inr}
-use Rattle.std.specs.Prelude.{Option, None, Some, option_map}
 use Rattle.tree.specs.Numbers.{divides}
 use Rattle.tree.specs.Search.{found}
 use Rattle.tree.specs.Tree.{Tree, nothing, line, node, Place, product, at_digits, at, way_by_digits, way, step}

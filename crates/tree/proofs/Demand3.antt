@@ -1,13 +1,12 @@
 -- Demand 3 over the definitions (specs/Demand3.antt): it holds of every list of opens and closes, with any arguments, that the rules answer.
 -- Assumes nothing.
-use Rattle.std.specs.Prelude.{if◌then◌else◌}
+use Rattle.std.specs.Prelude.{if◌then◌else◌, Option, None, Some}
 use Prim.Native.Nat.{ℕ, ◌<◌, ◌≤◌}
 use native.Mathlib.Omega.{arith}
 use mathlib.Core.Path.{◌≡◌, refl, sym, ◌∙◌, ap}
 use mathlib.Core.Logic.{◌↔◌}
 use mathlib.Core.Bool.{Bool, true, false, not, and-eq-true_iff}
 use mathlib.Core.List.{List}
-use Rattle.std.specs.Prelude.{Option, None, Some}
 use lib.ListN.{length}
 use borrow.Author.Tests.{not-true}
 use Rattle.tree.specs.Search.{found}

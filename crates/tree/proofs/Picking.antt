@@ -1,13 +1,12 @@
 -- What a search picks that keeps, of what it is offered, the one whose place comes first (`before` of specs/Opening.antt).
 -- Assumes nothing.
-use Rattle.std.specs.Prelude.{if◌then◌else◌}
+use Rattle.std.specs.Prelude.{if◌then◌else◌, Option, None, Some}
 use Prim.Native.Nat.{ℕ, suc, ◌<◌}
 use native.Mathlib.Decide.{ℕ_discrete}
 use native.Mathlib.Omega.{arith}
 use mathlib.Core.Path.{◌≡◌, refl, subst}
 use mathlib.Core.Bool.{Bool, true, false}
 use mathlib.Core.Logic.{◌⊎◌, inl, inr, ⊎_elim}
-use Rattle.std.specs.Prelude.{Option, None, Some}
 use Rattle.tree.specs.Tree.{Place}
 use Rattle.tree.specs.Opening.{before}
 use Rattle.tree.proofs.PlaceOrder.{before_asym, not_before_trans}

@@ -1,6 +1,6 @@
 -- Laws of the searches and lists below a bound (specs/Search.antt).
 -- Assumes nothing.
-use Rattle.std.specs.Prelude.{if◌then◌else◌}
+use Rattle.std.specs.Prelude.{if◌then◌else◌, Option, None, Some}
 use Prim.Native.Nat.{ℕ, zero, suc, ◌+◌, ◌<◌}
 use native.Mathlib.Omega.{arith}
 use native.Mathlib.Nat.{eq-or-lt_of_le, le_of_suc-le-suc}
@@ -9,7 +9,6 @@ use mathlib.Core.Path.{◌≡◌, refl, sym, ◌∙◌, ap}
 use mathlib.Core.Logic.{◌⊎◌, inl, inr}
 use mathlib.Core.Bool.{Bool, true, false, not, true≢false, false≢true}
 use mathlib.Core.List.{[], ◌∷◌}
-use Rattle.std.specs.Prelude.{Option, None, Some}
 use Rattle.tree.proofs.Options.{some-none}
 use Rattle.std.proofs.lemmas.Option.{none-some}
 use lib.ListN.{length, get_or, length-append, get_or-append}

@@ -1,11 +1,10 @@
 -- The sheet adds up (specs/Sheet.antt), in every legal tree.
 -- Assumes nothing.
-use Rattle.std.specs.Prelude.{if◌then◌else◌}
+use Rattle.std.specs.Prelude.{if◌then◌else◌, Option, None, Some}
 use Prim.Native.Nat.{ℕ, ◌+◌, ◌<◌}
 use native.Mathlib.Omega.{arith}
 use mathlib.Core.Path.{◌≡◌, refl, sym, ◌∙◌}
 use mathlib.Core.Bool.{Bool, true, false, true≢false, not-eq-not, not}
-use Rattle.std.specs.Prelude.{Option, None, Some}
 use lib.ListN.{replicate}
 use Rattle.tree.specs.Search.{found, each_below, count_below}
 use Rattle.tree.specs.Tree.{Tree, nothing, path, is_open}

@@ -1,6 +1,6 @@
 -- Where a line stands (specs/Standing.antt): by its path, once, with one period and one start, the start below the period.
 -- Assumes nothing.
-use Rattle.std.specs.Prelude.{if◌then◌else◌}
+use Rattle.std.specs.Prelude.{if◌then◌else◌, Option, None, Some}
 use Prim.Native.Nat.{ℕ, ◌+◌, ◌*◌, ◌<◌}
 use native.Mathlib.Omega.{arith}
 use native.Mathlib.Decide.{dec_lt}
@@ -8,7 +8,6 @@ use native.Mathlib.Nat.{mul-one, one-mul, mul-add, mul_assoc, mul_comm, mul-zero
 use mathlib.Core.Path.{◌≡◌, refl, sym, ◌∙◌, ap, ap₂}
 use mathlib.Core.Bool.{Bool, true, false, true≢false}
 use mathlib.Core.List.{List, [], ◌∷◌}
-use Rattle.std.specs.Prelude.{Option, None, Some}
 use Rattle.tree.proofs.Options.{some-none, mapped_none, mapped_some}
 use Rattle.std.proofs.lemmas.Option.{none-some}
 use lib.Dec.{eqb}

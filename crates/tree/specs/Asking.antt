@@ -1,7 +1,6 @@
 -- Asking the plan (document 01, Asking the plan; turns by document 02, Ask 1, and the rest by Ask 4).
 -- Assumes nothing.
-use Rattle.std.specs.Prelude.{ℕ, ◌+◌, ◌*◌, ◌/◌, ◌%◌, ◌<◌, ◌≡◌, Bool, true, false, List, [], ◌∷◌, ◌++◌, eqb, take, replicate, if◌then◌else◌}
-use Rattle.std.specs.Prelude.{Option, None, Some, unwrap_or}
+use Rattle.std.specs.Prelude.{ℕ, ◌+◌, ◌*◌, ◌/◌, ◌%◌, ◌<◌, ◌≡◌, Bool, true, false, List, [], ◌∷◌, ◌++◌, eqb, take, replicate, if◌then◌else◌, Option, None, Some, unwrap_or}
 use Rattle.tree.specs.declared.Row.{Row}
 use Rattle.tree.specs.Search.{found, smallest, count_below}
 use Rattle.tree.specs.Tree.{Tree, nothing, line, node, present, row, path_of, period_of, start_of, Place, way}

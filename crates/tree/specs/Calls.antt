@@ -1,7 +1,6 @@
 -- The calls: what each answers, and the tree that an open or a close leaves.
 -- Assumes nothing.
-use Rattle.std.specs.Prelude.{ℕ}
-use Rattle.std.specs.Prelude.{Option, None, Some}
+use Rattle.std.specs.Prelude.{ℕ, Option, None, Some}
 use Rattle.tree.specs.Tree.{Tree}
 use Rattle.tree.specs.Opening.{opened, start_given}
 use Rattle.tree.specs.Closing.{closed}

@@ -1,8 +1,7 @@
 -- Demand 3 (documents 00 and 01): one claim about a whole list of opens and closes, with the answers that were given and the tree that was left.
 -- It measures against the ledger and the reference tree (Lists.antt) and nothing else.
 -- Assumes nothing.
-use Rattle.std.specs.Prelude.{ℕ, ◌<◌, ◌≤◌, ◌≡◌, ◌↔◌, List, ◌∷◌, ◌++◌, length, if◌then◌else◌}
-use Rattle.std.specs.Prelude.{None, Some}
+use Rattle.std.specs.Prelude.{ℕ, ◌<◌, ◌≤◌, ◌≡◌, ◌↔◌, List, ◌∷◌, ◌++◌, length, if◌then◌else◌, None, Some}
 use Rattle.tree.specs.Search.{found}
 use Rattle.tree.specs.Tree.{Tree, is_open, path_of}
 use Rattle.tree.specs.Opening.{NoCandidate, start_given}

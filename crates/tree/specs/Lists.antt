@@ -1,7 +1,6 @@
 -- The lists of demand 3: the ledger and the reference tree (document 01, The lists of demand 3).
 -- Assumes nothing.
-use Rattle.std.specs.Prelude.{ℕ, ◌%◌, ◌≡◌, List, [], ◌∷◌, eqb, if◌then◌else◌}
-use Rattle.std.specs.Prelude.{Option, None, Some}
+use Rattle.std.specs.Prelude.{ℕ, ◌%◌, ◌≡◌, List, [], ◌∷◌, eqb, if◌then◌else◌, Option, None, Some}
 use Rattle.tree.specs.Tree.{Tree, nothing}
 use Rattle.tree.specs.Calls.{Call, open_line, close_line, Answer, booked, done, refused, answer, after}
 

@@ -1,7 +1,6 @@
 -- Opening a line (document 01, Opening a line).
 -- Assumes nothing.
-use Rattle.std.specs.Prelude.{ℕ, zero, suc, ◌+◌, ◌*◌, ◌/◌, ◌%◌, ◌≡◌, Bool, true, false, not, ◌&&◌, eqb, ltb, if◌then◌else◌}
-use Rattle.std.specs.Prelude.{Option, None, Some, option_map, unwrap_or}
+use Rattle.std.specs.Prelude.{ℕ, zero, suc, ◌+◌, ◌*◌, ◌/◌, ◌%◌, ◌≡◌, Bool, true, false, not, ◌&&◌, eqb, ltb, if◌then◌else◌, Option, None, Some, option_map, unwrap_or}
 use Rattle.tree.specs.Numbers.{divides, gcd}
 use Rattle.tree.specs.Search.{found, smallest, some_below}
 use Rattle.tree.specs.Tree.{Tree, nothing, line, node, present, Place, at, step}

@@ -1,7 +1,6 @@
 -- The checks of each call, in their sequence (document 01, Who brings a refusal about).
 -- Assumes nothing.
-use Rattle.std.specs.Prelude.{ℕ, Bool, not, ◌&&◌, ◌||◌, List, [], ◌∷◌, ◌++◌, eqb, ltb, if◌then◌else◌}
-use Rattle.std.specs.Prelude.{Option, None, Some}
+use Rattle.std.specs.Prelude.{ℕ, Bool, not, ◌&&◌, ◌||◌, List, [], ◌∷◌, ◌++◌, eqb, ltb, if◌then◌else◌, Option, None, Some}
 use Rattle.tree.specs.Search.{found}
 use Rattle.tree.specs.Tree.{Tree, present, is_open}
 use Rattle.tree.specs.Opening.{chosen}

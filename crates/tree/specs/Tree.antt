@@ -1,7 +1,6 @@
 -- The scheduling tree (document 01, The tree), and how a line and a node are found in it.
 -- Assumes nothing.
-use Rattle.std.specs.Prelude.{ℕ, zero, suc, ◌+◌, ◌*◌, ◌/◌, ◌%◌, Bool, true, false, List, [], ◌∷◌, eqb, if◌then◌else◌}
-use Rattle.std.specs.Prelude.{Option, None, Some, option_map, unwrap_or}
+use Rattle.std.specs.Prelude.{ℕ, zero, suc, ◌+◌, ◌*◌, ◌/◌, ◌%◌, Bool, true, false, List, [], ◌∷◌, eqb, if◌then◌else◌, Option, None, Some, option_map, unwrap_or}
 use Rattle.tree.specs.declared.Row.{Row}
 use Rattle.tree.specs.Search.{found, first, total_below}
 

@@ -1,7 +1,6 @@
 -- A trial: what an open would do, and what is meant by its doing so (document 02, Ask 3).
 -- Assumes nothing.
-use Rattle.std.specs.Prelude.{ℕ, ◌+◌, ◌-◌, ◌≡◌, ◌↔◌, Bool, true, false, ltb}
-use Rattle.std.specs.Prelude.{Option, None, Some}
+use Rattle.std.specs.Prelude.{ℕ, ◌+◌, ◌-◌, ◌≡◌, ◌↔◌, Bool, true, false, ltb, Option, None, Some}
 use Rattle.tree.specs.Tree.{Tree, nothing, line, node, Place, at, step, nodes}
 use Rattle.tree.specs.Opening.{divisor, chosen, opened, start_given}
 use Rattle.tree.specs.Refusals.{open_refusal}

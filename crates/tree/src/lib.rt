@@ -37,7 +37,8 @@ pub struct Sheet {
     pub idle: u16,
 }
 
-// A period of any size as open and packing take it: all above 4,095 are refused alike, so 4,096 stands for them.
+// A period of any size as open and packing take it: all above 4,095 are refused alike, so 4,096 stands for them. It keeps no
+// such period, so that it is no `From`.
 pub fn period_asked(period: u64) -> Period
     ensures { result.0 ≡ (if ltb 4095 period then 4096 else period) }
 {
