@@ -1,4 +1,5 @@
--- The figures of a sheet (crate tree, specs/Sheet.antt) of a legal record: a line's turns, whether a round is idle, and the loop that counts idle rounds.
+-- The figures of a sheet (crate tree, specs/Sheet.antt) of a legal record: a line's turns, whether a round is idle, and
+-- how many are.
 -- Assumes nothing.
 use Prim.Native.Nat.{ℕ, zero, suc, ◌<◌, ◌≤◌}
 use native.Mathlib.Omega.{arith}

@@ -1,4 +1,4 @@
--- Turns by a line's times, period p and start s: the formula that `turns_of` computes. That it is how many rounds the line owns is a law,
+-- Turns by a line's times, period p and start s: the formula that `turns` computes. That it is how many rounds the line owns is a law,
 -- proofs/TurnsByDivision.antt. Then the nearest turn of several lines, which is the rest of a round: proofs/NearestTurn.antt.
 -- Assumes nothing.
 use Rattle.std.specs.Prelude.{ℕ, ◌+◌, ◌-◌, ◌/◌, ◌%◌, min, List, Option, Some, ltb, if◌then◌else◌}

@@ -111,12 +111,12 @@ pub fn times_of(tree: TreeRecord<'_>, line: Line) -> Times
     let mut product: u16 = 1;
     let mut sum: u16 = 0;
     for k in 0..11 {
-        let w = paths::weight(tree.rows, line, k);
-        if w == 0 {
+        let row = paths::row(tree.rows, line, k);
+        if row.weight == 0 {
             break;
         }
-        sum += paths::edge(tree.rows, line, k) * product;
-        product *= w;
+        sum += row.edge * product;
+        product *= row.weight;
     }
     Times {
         period: Period(product),
