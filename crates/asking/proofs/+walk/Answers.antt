@@ -71,6 +71,7 @@ returns-in_err-next t c =
     let found = selected _ c.requires c.weight.ensures c.remainder.ensures c.in_err-next.ensures in
     rw c.from_residual.ensures (sym (walk_idle _ _ _ _ _ c.if-left-eq0.false (visits_within _ c.requires).2 c.weight.ensures found))
 
+-- The next line was found under that edge.
 found : (t : ℕ) (c : In_ok-next t) → line_under (path_at c.args.tree.rows.now) (path_at c.args.tree.rows.now c.args.line.number) c.args.level ((c.args.round.from + c.args.round.ahead) / c.args.step % c.weight.result) ≡ Some c.in_ok-next.next.number
 found t c = selected _ c.requires c.weight.ensures c.remainder.ensures c.in_ok-next.ensures
 

@@ -9,6 +9,7 @@ use Rattle.paths.proofs.PathNumbers.{Carried, carried_start, carried_row, carrie
 use Rattle.asking.proofs.times_of.Goals as goal
 use Rattle.asking.proofs.times_of.Goals.{Else-row-eq0, else-loop-k-test, then-loop-k-test+then-row-eq0}
 
+-- One row more of the path was read.
 with_row : (c : Else-row-eq0) → Carried c.args.tree.rows.now c.args.line.number (c.loop-k.product * c.row-row.result.weight) (c.loop-k.sum + c.row-row.result.edge * c.loop-k.product) (c.loop-k.k + 1)
 with_row c =
     let weight_is = ap (λ (r : Row). r.weight) c.row-row.ensures in

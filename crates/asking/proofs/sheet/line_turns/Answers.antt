@@ -9,6 +9,7 @@ use Rattle.asking.proofs.SheetFigures.{turns_of_closed, turns_of_open}
 use Rattle.asking.proofs.sheet.line_turns.Goals as goal
 use Rattle.asking.proofs.sheet.line_turns.Goals.{After-turns}
 
+-- They are the turns of the line, and no more than the rounds.
 counted : (c : After-turns) → (c.turns.result ≡ line_turns c.args.line.number c.args.first c.args.rounds (tree_of_rows c.args.tree.rows.now)) × (c.turns.result ≤ c.args.rounds)
 counted c =
     turns_of_open _ c.args.tree.is_legal _ c.args.line.below_64 _ _ (sym c.is_closed.ensures ∙ c.if-is_closed.false) c.times_of.ensures.0 c.times_of.ensures.1 c.turns.ensures
