@@ -69,7 +69,7 @@ fn print_list(rt: &impl Print, length: usize, lent: &[u8], answer: Result<(), Re
 fn within(asked: u64, most: usize) -> usize
     ensures { result ≤ most }
 {
-    most.min(asked as usize)
+    (asked as usize).min(most)
 }
 
 // A list of so many bytes, with so many lent for its answers.
@@ -98,9 +98,9 @@ fn give(script: &mut impl Read, bytes: &mut [u8], count: u64) -> Option<()> {
 
 // One step: the empty plan again, a number written over, a question, bytes that are given, or a list of them.
 // The kind is matched as the script's number: so each stands once, beside what it runs, where an enum would name it three times.
-fn run_step<R: Read>(
+fn run_step(
     rt: &impl Print,
-    script: &mut R,
+    script: &mut impl Read,
     bytes: &mut [u8],
     plan: Plan,
     step: Step,
