@@ -22,6 +22,8 @@ pub mod round;
 pub mod sheet;
 pub mod times;
 
+// A node on a path is given by line and level here: of its step only the walk knows, and nothing of its offset.
+
 // Line `other` takes this edge of the node at a level of line `line`'s path. The edge is looked at first: most lines fail there.
 fn takes_edge(rows: &[u16; 1408], line: Line, other: Line, level: usize, edge: u16) -> bool
     requires { level < 11 }
@@ -72,7 +74,7 @@ fn ends_below(rows: &[u16; 1408], line: Line, level: usize) -> bool
 }
 
 // The walk for a round, from the node at a level of a line's path to the child that the round selects, through at most
-// `left` nodes. It carries the step of the node that it visits.
+// `left` nodes: document 01 names the recursion. It carries the step of the node that it visits.
 fn walk(
     tree: TreeRecord<'_>,
     line: Line,
@@ -125,6 +127,7 @@ pub fn times_of(tree: TreeRecord<'_>, line: Line) -> Times
 }
 
 // A line's path as 11 rows, unused ones 0 and 0: the record's own rows, since those after a path are 0 and 0 there too.
+// It is built row by row, as document 01 has it.
 pub fn rows_of(tree: TreeRecord<'_>, line: Line) -> [Row; 11]
     ensures { result ≡ rows_11 (path_at tree.entry.rows.now line.number) }
 {

@@ -21,6 +21,7 @@ fn line_turns(tree: TreeRecord<'_>, line: Line, first: u64, rounds: u16) -> u16
     times_of(tree, line).turns(first, rounds as u32) as u16
 }
 
+// By a loop: `array::from_fn` would want a contract on its closure for a line below 64.
 fn turns_of_lines(tree: TreeRecord<'_>, first: u64, rounds: u16) -> [u16; 64]
     ensures { result ≡ each_below 64 (λ L. line_turns L first rounds (tree_of_rows tree.entry.rows.now)) }
 {

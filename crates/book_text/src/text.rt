@@ -53,7 +53,7 @@ impl Text<'_> {
         self.append(b" ");
     }
 
-    // Writes the start of a line that was opened, and `-` for every other order.
+    // Writes the start of a line that was opened, and `-` for every other order. Kind and result are numbers, as printed.
     #[tactic(auto, using(std::proofs::lemmas::Bool::Decides::nat_tests), unfolding(crate::specs::Writing::start_printed))]
     fn append_start(&mut self, kind: u64, result_field: u64, start: u64)
         requires { length (start_printed kind result_field start) ≤ room self.old }
@@ -94,7 +94,7 @@ impl Text<'_> {
         self.append_line(number, fields, result, start);
     }
 
-    // Writes the lines of all orders, whose answers are given.
+    // Writes the lines of all orders, whose answers are given by index: of a `zip` the library has no law for one turn.
     fn append_orders(&mut self, orders: &[u8], answers: &[u8])
         requires has_room { length (order_lines 1 (orders_of orders.now) (list_answers nothing (orders_of orders.now))) ≤ room self.old }
         requires answered { Answered orders.now answers.now }

@@ -32,6 +32,8 @@ pub fn clear_line(rows: &mut [u16; 1408], line: Line)
 }
 
 // The node at a level of a line's path is split by d, on this path alone: the rows after it move down by one, from the last on.
+// They move row by row, here and in `place_line`: `copy_within` was proved too, and is slower (DECISIONS 156). Line and level
+// are given one by one, since nothing here asks the node's step.
 pub fn split_line(rows: &mut [u16; 1408], line: Line, level: usize, d: u16)
     requires { SplittableOnLine rows.old line.number level d }
     ensures { rows.new ≡ set_line rows.old line.number (split_path level d (path_at rows.old line.number)) }

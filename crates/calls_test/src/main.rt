@@ -11,7 +11,7 @@ use plan::walker::{Walked, WalkerPlace};
 use test_script::{Step, begin, print_owner, run_owner, run_script, write_number};
 use tree::{Period, Plan, Row};
 
-// A number too large for a period is out of range, and stays so.
+// A number too large for a period is out of range, and stays so. Not `tree::period_asked`: a period of 16 bits is put as it is.
 fn period_of(asked: u64) -> Period {
     Period(u16::try_from(asked).unwrap_or(u16::MAX))
 }

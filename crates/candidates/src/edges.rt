@@ -8,7 +8,7 @@ use crate::open_lines::OpenLines;
 use paths::{edge, same_node};
 use tree::line::Line;
 
-// The edge is marked.
+// The edge is marked. Two functions over the words, and no type of their own: nothing else is done with them.
 pub fn is_marked(marks: &[u64; 64], edge: usize) -> bool
     requires { edge < 4096 }
     ensures { result ≡ marked marks.now edge }

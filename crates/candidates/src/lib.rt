@@ -58,7 +58,9 @@ pub fn gcd(a: u16, b: u16) -> u16
 }
 
 // The smallest class modulo d none of whose edges is present, of a node that no earlier line goes through.
-// The present edges are marked once; each that is met leaves to the next class.
+// The present edges are marked once; each that is met leaves to the next class, by label as document 01 has it.
+// That the line is the first through the node is a `requires` of three functions: a type would be made once, to be taken apart
+// in each.
 pub fn free_class(lines: OpenLines<'_>, node: PathNode, d: u16) -> Option<u16>
     requires { FirstThrough lines.record.rows.now node.line.number node.level }
     ensures { let rows = lines.entry.record.rows.now in result ≡ class_on_path (path_at rows) (path_at rows node.line.number) node.level d }
@@ -93,7 +95,8 @@ fn spot_at(lines: OpenLines<'_>, node: PathNode, period: Period) -> Option<Spot>
     })
 }
 
-// A node's place comes before the best so far, or there is none so far.
+// A node's place comes before the best so far, or there is none so far. By hand, since a derived order would need a type with
+// the level reversed.
 fn comes_first(node: PathNode, best: Option<Spot>) -> bool
     ensures { result ≡ comes_first (record { level = node.level; offset = node.offset }) (spot_of best) }
 {

@@ -6,7 +6,7 @@ ghost use Rattle.gaplinte.specs.OrdersServed.{PackServed, call_numbers, ReadServ
 use crate::answers;
 use orders::{Bytes, Order};
 
-// Packs an order. A period of any size is checked whole.
+// Packs an order. A kind and a period of any size are checked whole.
 pub fn gaplinte_pack(kind: u64, line: u64, period: u64, order: &mut [u8; 3]) -> i64
     ensures { PackServed kind line period order.old order.new result }
 {

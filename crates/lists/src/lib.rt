@@ -123,7 +123,7 @@ pub fn run_list_rows(
     Ok(())
 }
 
-// The same with a plan by value, which is given back.
+// The same with a plan by value, which is given back, so that the two are no one function.
 pub fn run_list(plan: Plan, orders: &[u8], answers: &mut [u8]) -> Changed<Result<(), Refusal>>
     ensures { ListRan plan orders.now answers.old (refusal_in result.answer) result.plan answers.new }
 {

@@ -35,14 +35,14 @@ impl From<Bytes> for [u8; 3] {
     }
 }
 
-// What can be read: the line and the period to open, or the line to close.
+// What can be read: the line and the period to open, or the line to close. The line is a number, as the calls take it.
 #[derive(Clone, Copy, Debug, PartialEq, Eq)]
 pub enum Order {
     Open(u64, Period),
     Close(u64),
 }
 
-// The fields of an order as its bits say.
+// The fields of an order as its bits say. The kind is a number, since 2 and 3 are fields too, which document 01 refuses.
 #[derive(Clone, Copy, Debug, PartialEq, Eq)]
 pub struct OrderFields {
     pub kind: u64,
@@ -68,7 +68,7 @@ fn join(high: u64, width: u64, low: u64) -> u64
     (high << width) | low
 }
 
-// The word that three bytes are.
+// The word that three bytes are. By shifts and masks, here and below: the form that document 01 names.
 fn word_of(bytes: Bytes) -> u64
     ensures { result ≡ order_of bytes }
 {
@@ -88,7 +88,7 @@ fn split(word: u64) -> Bytes
     Bytes(first, second, third)
 }
 
-// The word with these fields and no bit set in its filler.
+// The word with these fields and no bit set in its filler. What fits a field is asked here alone.
 fn word_with(kind: u64, line: u64, period: u64) -> u64
     requires { (kind < 4) × ((line < 64) × (period < 4096)) }
     ensures { result ≡ order_with kind line period }
@@ -148,6 +148,7 @@ pub fn pack(kind: u64, line: u64, period: Period) -> Result<Bytes, Refusal>
         0 | 1 => {}
         2..=u64::MAX => return Err(Refusal::NoOrder),
     }
+    // A test alone: no line is made, since the number goes into the word as it is.
     if 63 < line {
         return Err(Refusal::LineAbove63);
     }

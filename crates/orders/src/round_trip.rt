@@ -10,6 +10,7 @@ use crate::{Bytes, Order};
 use tree::Period;
 use tree::refusal::Refusal;
 
+// The kind is a number of any size, as packing takes it.
 // An order packed and then read: the arguments come back, or packing's refusal.
 // It is there for its contract, which states of the real calls what `packed_then_read_outcome` states of the definitions.
 pub fn packed_then_read(kind: u64, line: u64, period: Period) -> Result<Order, Refusal>

@@ -7,7 +7,7 @@ use orders::{Bytes, Order};
 use tree::Period;
 use tree::refusal::Refusal;
 
-// Kinds at the borders; 256 and 2^32 + 1 would be 0 and 1 if they were cut off.
+// Kinds at the borders, and lines below, as numbers: most are out of range on purpose; 256 and 2^32 + 1 would be 0 and 1 if they were cut off.
 const KINDS: [u64; 8] = [0, 1, 2, 3, 4, 256, 4294967297, u64::MAX];
 
 // Lines at the borders; 256, 2^16 + 1 and 2^32 would be 0, 1 and 0 if they were cut off.

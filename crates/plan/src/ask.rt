@@ -65,7 +65,7 @@ pub fn show<P: PlanRecord>(plan: &P, line: u64) -> Result<Shown, Refusal>
 }
 
 // Turns: how many rounds a line owns among so many that begin with `first`, or a refusal with 1 or 4. The rounds are whole
-// numbers and may pass 2^64.
+// numbers and may pass 2^64. First round and number of rounds are two parameters, as the library has them.
 pub fn turns<P: PlanRecord>(plan: &P, line: u64, first: u64, rounds: u32) -> Result<u64, Refusal>
     ensures { outcome_of (λ count. count) result ≡ turns_outcome line first rounds (tree_of_rows (P.numbers plan.now)) }
 {

@@ -2,8 +2,7 @@
 ghost use Rattle.bridge.specs.Rows.{tree_of_rows};
 ghost use Rattle.plan.specs.Walker.{WalkedOn};
 
-use crate::ask;
-use crate::ask::OwnerAnswer;
+use crate::ask::{self, OwnerAnswer};
 use crate::record::PlanRecord;
 use tree::refusal::Refusal;
 

@@ -24,7 +24,7 @@ pub struct Period(pub u16);
 pub struct Start(pub u16);
 
 // A plan of rounds: for each of the 64 lines its path, 11 rows of weight and edge.
-// Row k of line L stands at 22 * L + 2 * k; rows that are not used are 0 and 0.
+// Row k of line L stands at 22 * L + 2 * k, flat as the library lends it to C; rows that are not used are 0 and 0.
 #[derive(Clone, Copy)]
 pub struct Plan {
     pub rows: [u16; 1408],
