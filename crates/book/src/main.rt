@@ -51,15 +51,27 @@ fn write_whole<'a>(input: &[u8], lent: &'a mut [u8; LONGEST_TEXT]) -> &'a [u8]
     &lent[..length]
 }
 
+// Writes the text, until a write takes nothing or fails. A write that a signal interrupts counts as one that failed: it is
+// not `write_all`, which would try again.
+fn print(output: &mut impl Write, text: &[u8]) -> io::Result<()> {
+    let mut rest = text;
+    while !rest.is_empty() {
+        match output.write(rest)? {
+            0 => return Err(io::ErrorKind::WriteZero.into()),
+            more => rest = &rest[more..],
+        }
+    }
+    Ok(())
+}
+
 // One byte more than the longest list is read, so that a longer one is refused. What was read is printed before any
-// report. A write that a signal interrupts is tried again by `write_all`. That a report cannot be written is not
-// reported, since there is nowhere to.
+// report. That a report cannot be written is not reported, since there is nowhere to.
 fn main(rt: HostRuntime) {
     let mut input_buffer = [0; MOST_INPUT];
     let mut text_buffer = [0; LONGEST_TEXT];
     let input = read_input(&mut rt.stdin(), &mut input_buffer);
     let text = write_whole(input.bytes, &mut text_buffer);
-    let written = rt.stdout().write_all(text);
+    let written = print(&mut rt.stdout(), text);
     if input.ended.is_err() {
         let _ = eprintln!(rt; "book: standard input: cannot be read");
     }
