@@ -24,10 +24,10 @@ book_at-requires c =
 pub returns-in_default : goal.returns-in_default
 unfolding open_answer OpenChecked
 returns-in_default c =
-    let found = c.in_ok-room.ensures in
-    let first = checked_root _ _ _ found.1 c.in_default.is in
-    rw (c.place_first.ensures, found.0) (open_first _ _ _ first.0 c.told-rows first.1)
+    let root = c.in_ok-room.ensures in
+    let first = checked_root _ _ _ root.1 c.in_default.is in
+    rw (c.place_first.ensures, root.0) (open_first _ _ _ first.0 c.told-rows first.1)
 
 pub returns : goal.returns
 unfolding open_answer OpenChecked
-returns c = rw (sym c.in_ok-room.ensures.0) c.book_at.ensures
+returns c = let placed = c.in_ok-room.ensures in rw (sym placed.0) c.book_at.ensures

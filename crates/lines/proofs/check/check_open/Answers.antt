@@ -1,5 +1,6 @@
 -- `lines::check::check_open` meets its contract: one law for each check that refuses, else what the search finds.
 -- Assumes nothing.
+use Prim.Native.Nat.{◌≤◌}
 use native.Mathlib.Omega.{arith}
 use mathlib.Core.Path.{sym, ◌∙◌}
 use Rattle.std.proofs.lemmas.Result.{err_from_is_err_and}
@@ -41,12 +42,14 @@ pub returns-in_err-spot : goal.returns-in_err-spot
 unfolding OpenChecked
 returns-in_err-spot c =
     let told = err_from_is_err_and c.from_residual-in_err-spot.result c.from_residual-in_err-spot.ensures.1 in
-    let ready = checks_passed _ _ _ c.args.tree.is_legal c.in_ok-line.line.below_64 c.if-period-eq0.false c.if-period-gt4095.false (sym c.is_closed.ensures ∙ c.if-not-is_closed.false) in
+    let short : c.args.period.0 ≤ 4095 = c.if-period-gt4095.false in
+    let ready = checks_passed _ _ _ c.args.tree.is_legal c.in_ok-line.line.below_64 c.if-period-eq0.false short (sym c.is_closed.ensures ∙ c.if-not-is_closed.false) in
     rw (told.1, told.2, sym (line_accepted _ _ c.in_ok-line.ensures)) (checked_if_bookable _ _ _ ready _ c.in_err-spot.ensures)
 
 pub returns : goal.returns
 unfolding OpenChecked
 returns c =
     let same = line_accepted _ _ c.in_ok-line.ensures in
-    let ready = checks_passed _ _ _ c.args.tree.is_legal c.in_ok-line.line.below_64 c.if-period-eq0.false c.if-period-gt4095.false (sym c.is_closed.ensures ∙ c.if-not-is_closed.false) in
+    let in_range : c.args.period.0 ≤ 4095 = c.if-period-gt4095.false in
+    let ready = checks_passed _ _ _ c.args.tree.is_legal c.in_ok-line.line.below_64 c.if-period-eq0.false in_range (sym c.is_closed.ensures ∙ c.if-not-is_closed.false) in
     (same, rw (sym same) (checked_if_bookable _ _ _ ready _ c.in_ok-spot.ensures))
