@@ -14,7 +14,7 @@ use Rattle.tree.specs.declared.Plan.{Plan}
 use Rattle.tree.specs.Tree.{Tree, at, way, step}
 use Rattle.tree.specs.Opening.{class_at, opened, start_given}
 use Rattle.tree.specs.Record.{path_at, legal, tree_of}
-use Rattle.paths.specs.Rules.{row_of, same_node, Spot, place_of, split_path, booked_path}
+use Rattle.paths.specs.Rules.{row_of, same_node, Spot, place_of, spot_start, split_path, booked_path}
 use Rattle.tree.proofs.Standing.{start_below_period}
 use Rattle.tree.proofs.Proper.{legal_proper}
 use Rattle.tree.proofs.Depth.{at_most_11_above}
@@ -78,7 +78,7 @@ module _ (plan : Plan) (L p : ℕ) (s : Spot) (is_legal : legal plan.rows ≡ tr
           absurd (omega arith)
 
   -- the start answered is below the period
-  pub start_below : s.offset + s.class * s.step < p
+  pub start_below : spot_start s < p
   start_below =
       rw (booked_start plan L p s is_legal long may found_spot)
       (start_below_period L (opened L p t) p (start_given p t) (opened_new L p t may))
