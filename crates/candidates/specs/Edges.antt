@@ -6,7 +6,6 @@ use Rattle.tree.specs.declared.Row.{Row}
 use Rattle.tree.specs.Search.{found}
 use Rattle.tree.specs.Record.{path_at, no_rows}
 use Rattle.paths.specs.Rules.{Family, line_under}
-use Rattle.candidates.specs.Answers.{seen_earlier}
 
 -- edge e is marked: bit e % 64 of word e / 64 is set
 unfoldable pub marked : List ℕ → ℕ → Bool
@@ -33,8 +32,3 @@ pub record ClosedFrom (rows : List ℕ) (end : ℕ) : Type 0 where
 pub record EndOfLines (rows : List ℕ) (end : ℕ) : Type 0 where
   pub closed_from : ClosedFrom rows end
   pub last_open : (M : ℕ) → end ≡ suc M → no_rows (path_at rows M) ≡ false
-
--- line L is the first whose path goes through the node at level l of its path
-pub record FirstThrough (rows : List ℕ) (L l : ℕ) : Type 0 where
-  pub on_path : l < length (path_at rows L)
-  pub unseen : seen_earlier (path_at rows) L l ≡ false

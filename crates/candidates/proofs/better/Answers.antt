@@ -1,32 +1,32 @@
--- `candidates::better` meets its contract: a node that does not come first, whose step does not divide or that was seen earlier has nothing better to offer; any other is searched.
--- Assumes nothing.
-use mathlib.Core.Path.{sym}
-use borrow.Author.Tests.{eq-eqb}
-use Rattle.tree.specs.Numbers.{divides}
-use Rattle.paths.proofs.PathRows.{within_path}
-use Rattle.candidates.proofs.SeenEarlier.{seen_no_better}
-use Rattle.candidates.proofs.BetterOffer.{not_first, not_dividing, first_offer}
-use Rattle.candidates.proofs.BestOnPath.{step_positive}
+use Rattle.std.proofs.Common.{rules, ◌≡◌, true, ◌+◌, ◌*◌, ◌<◌, ◌≤◌, length, ℕ, ◌-◌, ◌/◌, ◌%◌, Bool, false, nat_eq, nat_lt, List, [], ◌∷◌, ◌++◌, slice_index_or, slice_set, bit_and, bit_or, Fits, w8, w32, w64, Bor, MutBor}
+use Rattle.tree.specs.Numbers.{gcd, divides}
+use Rattle.tree.specs.Search.{smaller_by}
+use Rattle.tree.specs.Record.{path_at}
+use Rattle.paths.specs.Rules.{spot_start, class_on_path, spot_at, best_on_path, best_of_lines}
+use Rattle.candidates.specs.Answers.{spot_of, starts_by}
+use Rattle.candidates.specs.Searched.{NodeOf, SearchedTo, Seen}
 use Rattle.candidates.proofs.better.Goals as goal
 
-pub returns-then-not-comes_first : goal.returns-then-not-comes_first
-returns-then-not-comes_first c = not_first _ c.requires.reached (sym c.if-not-comes_first.ensures)
+-- src/lib.rt:89:8
+pub edge-requires : goal.edge-requires
+edge-requires c = ?
 
-pub nonzero_rem-period : goal.nonzero_rem-period
-nonzero_rem-period c = step_positive _ c.requires.reached c.args.lines.record.is_legal c.args.node.line.below_64
+-- src/lib.rt:90:28
+pub overflow_add-node : goal.overflow_add-node
+overflow_add-node c = ?
 
-pub returns-then-period-node-ne0 : goal.returns-then-period-node-ne0
-returns-then-period-node-ne0 c = not_dividing _ c.requires.reached c.if-period-node-ne0.true
+-- src/lib.rt:91:13
+pub returns-then-starts_by : goal.returns-then-starts_by
+returns-then-starts_by c = ?
 
-pub seen_earlier-requires : goal.seen_earlier-requires
-seen_earlier-requires c = within_path _ _ c.requires.on_path
+-- src/lib.rt:95:9
+pub returns-in_default : goal.returns-in_default
+returns-in_default c = ?
 
-pub returns-then-seen_earlier : goal.returns-then-seen_earlier
-returns-then-seen_earlier c = sym (seen_no_better _ _ _ _ c.args.lines.record.is_legal c.args.node.line.below_64 c.requires.reached (sym c.if-seen_earlier.ensures))
+-- src/lib.rt:98:9
+pub returns-then-starts_by-2 : goal.returns-then-starts_by-2
+returns-then-starts_by-2 c = ?
 
-pub spot_at-requires-clause-step_divides : goal.spot_at-requires-clause-step_divides
-unfolding divides
-spot_at-requires-clause-step_divides c = (step_positive _ c.requires.reached c.args.lines.record.is_legal c.args.node.line.below_64, eq-eqb _ _ c.if-period-node-ne0.false)
-
+-- src/lib.rt:84:1
 pub returns : goal.returns
-returns c = rw c.or.ensures (first_offer _ c.requires.reached (sym c.if-not-comes_first.ensures) _ c.spot_at.ensures)
+returns c = ?
