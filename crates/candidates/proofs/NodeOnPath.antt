@@ -1,6 +1,6 @@
 -- The node at a level of a line's path in a legal record (`NodeOf`, specs/Searched.antt): its numbers are in range.
 -- Assumes nothing.
-use Rattle.std.specs.Prelude.{if◌then◌else◌, Some, option_map}
+use Rattle.std.specs.Prelude.{Some, option_map}
 use Prim.Native.Nat.{ℕ, zero, suc, ◌+◌, ◌*◌, ◌/◌, ◌<◌, ◌≤◌}
 use native.Mathlib.Omega.{arith}
 use native.Mathlib.Nat.{mul-le-mul_left}

@@ -4,26 +4,25 @@ use Prim.Native.Nat.{ℕ, zero, suc, ◌+◌, ◌*◌, ◌<◌, ◌≤◌, ◌�
 use native.Mathlib.Omega.{arith}
 use native.Mathlib.Nat.{le_refl, eq-or-lt_of_le, mul-le-mul_left, mul-dvd-mul_left, one-dvd, dvd_refl, dvd_trans, mod-eq-zero_of_dvd}
 use native.Mathlib.Numerals.{add-one}
-use mathlib.Core.Path.{◌≡◌, refl, sym, ◌∙◌, subst}
+use mathlib.Core.Path.{◌≡◌, refl, sym, ◌∙◌}
 use mathlib.Core.Logic.{inl, inr}
-use mathlib.Core.Bool.{Bool, true, false, true≢false, not-eq-not}
+use mathlib.Core.Bool.{true, false, true≢false, not-eq-not}
 use mathlib.Core.List.{List, [], ◌∷◌}
 use Rattle.std.specs.Prelude.{Option, None}
 use borrow.Author.Tests.{eq-eqb}
 use lib.ListN.{length, take, replicate}
 use Rattle.tree.specs.declared.Row.{Row}
 use Rattle.tree.specs.Numbers.{divides}
-use Rattle.tree.specs.Search.{smaller_by}
 use Rattle.tree.specs.Tree.{product, sum_from, sum}
 use Rattle.tree.specs.Record.{row_at, path_at, no_rows, legal}
 use Rattle.tree.proofs.Divisors.{divides_true}
 use Rattle.tree.proofs.Standing.{sum_row}
-use Rattle.paths.specs.Rules.{Family, Spot, spot_start, spot_at, best_on_path, best_of_lines}
+use Rattle.paths.specs.Rules.{Spot, spot_at, best_on_path, best_of_lines}
 use Rattle.paths.proofs.PathNumbers.{Carried, carried_start, carried_row, carried_below, carried_small}
 use Rattle.paths.proofs.RowLaws.{no_rows_empty}
 use Rattle.candidates.specs.Answers.{starts_by}
 use Rattle.candidates.specs.Edges.{ClosedFrom}
-use Rattle.candidates.specs.Searched.{SearchedTo, Seen}
+use Rattle.candidates.specs.Searched.{SearchedTo}
 use Rattle.candidates.proofs.LinesEnd.{best_before_end}
 use Rattle.candidates.proofs.NothingBetter.{NoBetter, none_no_better, starts_by_no_better}
 use Rattle.candidates.proofs.Spots.{step_not_dividing, offer_from_offset}

@@ -1,11 +1,11 @@
 -- The nodes that the search has looked at (`Seen`, specs/Searched.antt), and that such a node has nothing better to offer on a later path.
 -- Assumes nothing.
-use Prim.Native.Nat.{ℕ, zero, suc, ◌+◌, ◌<◌, ◌≤◌}
+use Prim.Native.Nat.{ℕ, ◌+◌, ◌<◌, ◌≤◌}
 use native.Mathlib.Omega.{arith}
 use native.Mathlib.Decide.{ℕ_discrete}
 use native.Mathlib.Numerals.{add-one}
 use mathlib.Core.Path.{◌≡◌, refl, sym, ◌∙◌}
-use mathlib.Core.Logic.{◌⊎◌, inl, inr}
+use mathlib.Core.Logic.{inl, inr}
 use mathlib.Core.Bool.{true}
 use mathlib.Core.List.{List}
 use Rattle.std.specs.Prelude.{Option}
@@ -15,8 +15,7 @@ use Rattle.tree.specs.Search.{smaller_by}
 use Rattle.tree.specs.Tree.{sum}
 use Rattle.tree.specs.Record.{path_at, legal}
 use Rattle.paths.specs.Rules.{Family, Spot, spot_start, spot_at, best_on_path}
-use Rattle.candidates.specs.declared.spot.PathNode.{PathNode}
-use Rattle.candidates.specs.Searched.{NodeOf, Earlier, SeenNode, Seen, SearchedTo}
+use Rattle.candidates.specs.Searched.{Earlier, SeenNode, Seen, SearchedTo}
 use Rattle.candidates.proofs.Marks.{zero_entry}
 use Rattle.candidates.proofs.NothingBetter.{NoBetter, earlier_no_better}
 use Rattle.candidates.proofs.OneNode.{lines_of_one_offset, met_no_better}
