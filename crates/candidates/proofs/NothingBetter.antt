@@ -1,16 +1,16 @@
 -- What is no better than the best so far: by its start, and because it was offered earlier.
 -- Assumes nothing.
 use Rattle.std.specs.Prelude.{if◌then◌else◌, Option, None, Some}
-use Prim.Native.Nat.{ℕ, suc, ◌<◌, ◌≤◌}
+use Prim.Native.Nat.{ℕ, ◌<◌, ◌≤◌}
 use native.Mathlib.Nat.{le_refl}
 use native.Mathlib.Omega.{arith}
-use mathlib.Core.Path.{◌≡◌, refl, sym, ◌∙◌}
+use mathlib.Core.Path.{◌≡◌, refl, sym}
 use mathlib.Core.Bool.{Bool, true, false, true≢false}
 use mathlib.Core.Logic.{inl}
-use lib.Dec.{ltb, leb}
+use lib.Dec.{ltb}
 use lib.ListN.{length}
 use borrow.Author.Tests.{ltb-false, le-ltb, lt-ltb, leb-true, leb-false}
-use Rattle.std.proofs.lemmas.Option.{none-some, same_Some}
+use Rattle.std.proofs.lemmas.Option.{same_Some}
 use Rattle.tree.specs.Search.{smaller_by}
 use Rattle.tree.proofs.Picking.{Either}
 use Rattle.paths.specs.Rules.{Family, Spot, spot_start, spot_at, best_on_path, best_of_lines}
@@ -48,11 +48,18 @@ starts_by_no_better (Some b) n h None later = none_no_better (Some b)
 starts_by_no_better (Some b) n h (Some s) later =
     start_no_better s b (omega (arith, leb-true (spot_start b) n h, later s refl))
 
--- it is not, and a spot offers n
-pub starts_later_better : (o : Option Spot) (s : Spot) → starts_by o (spot_start s) ≡ false → smaller_by spot_start o (Some s) ≡ Some s
-unfolding starts_by smaller_by
-starts_later_better None s h = refl
-starts_later_better (Some b) s h = rw (lt-ltb (spot_start s) (spot_start b) (leb-false (spot_start b) (spot_start s) h))
+-- n is the start that a spot offers
+module _ (o : Option Spot) (s : Spot) {n : ℕ} (start_is : n ≡ spot_start s) where
+  pub offer_no_better : starts_by o n ≡ true → NoBetter (Some s) o
+  offer_no_better h = starts_by_no_better o n h (Some s) (λ q same. rw (← same_Some s q same) (omega arith))
+
+  pub offer_better : starts_by o n ≡ false → smaller_by spot_start o (Some s) ≡ Some s
+  unfolding starts_by smaller_by
+  offer_better h = go o (rw start_is at h)
+    where
+      go : (q : Option Spot) → starts_by q (spot_start s) ≡ false → smaller_by spot_start q (Some s) ≡ Some s
+      go None k = refl
+      go (Some b) k = rw (lt-ltb (spot_start s) (spot_start b) (leb-false (spot_start b) (spot_start s) k))
 
 -- What was offered earlier
 

@@ -4,26 +4,25 @@ use Prim.Native.Nat.{ℕ, zero, suc, ◌+◌, ◌*◌, ◌<◌, ◌≤◌, ◌�
 use native.Mathlib.Omega.{arith}
 use native.Mathlib.Nat.{le_refl, eq-or-lt_of_le, mul-le-mul_left, mul-dvd-mul_left, one-dvd, dvd_refl, dvd_trans, mod-eq-zero_of_dvd}
 use native.Mathlib.Numerals.{add-one}
-use mathlib.Core.Path.{◌≡◌, refl, sym, ◌∙◌, subst}
+use mathlib.Core.Path.{◌≡◌, refl, sym, ◌∙◌}
 use mathlib.Core.Logic.{inl, inr}
-use mathlib.Core.Bool.{Bool, true, false, true≢false, not-eq-not}
+use mathlib.Core.Bool.{true, false, true≢false, not-eq-not}
 use mathlib.Core.List.{List, [], ◌∷◌}
 use Rattle.std.specs.Prelude.{Option, None}
 use borrow.Author.Tests.{eq-eqb}
 use lib.ListN.{length, take, replicate}
 use Rattle.tree.specs.declared.Row.{Row}
 use Rattle.tree.specs.Numbers.{divides}
-use Rattle.tree.specs.Search.{smaller_by}
 use Rattle.tree.specs.Tree.{product, sum_from, sum}
 use Rattle.tree.specs.Record.{row_at, path_at, no_rows, legal}
 use Rattle.tree.proofs.Divisors.{divides_true}
 use Rattle.tree.proofs.Standing.{sum_row}
-use Rattle.paths.specs.Rules.{Family, Spot, spot_start, spot_at, best_on_path, best_of_lines}
-use Rattle.paths.proofs.PathNumbers.{Carried, carried_start, carried_row}
+use Rattle.paths.specs.Rules.{Spot, spot_at, best_on_path, best_of_lines}
+use Rattle.paths.proofs.PathNumbers.{Carried, carried_start, carried_row, carried_below, carried_small}
 use Rattle.paths.proofs.RowLaws.{no_rows_empty}
 use Rattle.candidates.specs.Answers.{starts_by}
 use Rattle.candidates.specs.Edges.{ClosedFrom}
-use Rattle.candidates.specs.Searched.{SearchedTo, Seen}
+use Rattle.candidates.specs.Searched.{SearchedTo}
 use Rattle.candidates.proofs.LinesEnd.{best_before_end}
 use Rattle.candidates.proofs.NothingBetter.{NoBetter, none_no_better, starts_by_no_better}
 use Rattle.candidates.proofs.Spots.{step_not_dividing, offer_from_offset}
@@ -113,6 +112,18 @@ module _ {rows : List ℕ} {p L l m r : ℕ} {best : Option Spot} {seen : List �
   pub path_search_more : l < length (path_at rows L) → {e w : ℕ} → e ≡ (row_at rows L l).edge → w ≡ (row_at rows L l).weight → {next : Option Spot} {after : List ℕ} →
       SearchedTo (path_at rows) p L (l + 1) next after → PathSearch rows p L (l + 1) (m * w) (r + e * m) next after
   path_search_more there read_edge read_weight searched = record { carried = carried_row search.carried there read_edge read_weight; searched = searched }
+
+-- The numbers of the loop
+
+module _ {rows : List ℕ} {p L l m r : ℕ} {best : Option Spot} {seen : List ℕ} (search : PathSearch rows p L l m r best seen) (is_legal : legal rows ≡ true) (line_below : L < 64) where
+  pub path_step_positive : 0 < m
+  path_step_positive = omega (arith, carried_below search.carried is_legal line_below)
+
+  pub next_offset_small : l < length (path_at rows L) → {e : ℕ} → e ≡ (row_at rows L l).edge → r + e * m ≤ 4095
+  next_offset_small there read = (carried_small (carried_row search.carried there read refl) is_legal line_below).1
+
+  pub next_step_small : l < length (path_at rows L) → {w : ℕ} → w ≡ (row_at rows L l).weight → m * w ≤ 4095
+  next_step_small there read = (carried_small (carried_row search.carried there refl read) is_legal line_below).0
 
 -- Over the lines
 

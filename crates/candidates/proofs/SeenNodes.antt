@@ -1,28 +1,27 @@
 -- The nodes that the search has looked at (`Seen`, specs/Searched.antt), and that such a node has nothing better to offer on a later path.
 -- Assumes nothing.
-use Prim.Native.Nat.{ℕ, zero, suc, ◌+◌, ◌<◌, ◌≤◌}
+use Prim.Native.Nat.{ℕ, ◌+◌, ◌<◌, ◌≤◌}
 use native.Mathlib.Omega.{arith}
 use native.Mathlib.Decide.{ℕ_discrete}
 use native.Mathlib.Numerals.{add-one}
 use mathlib.Core.Path.{◌≡◌, refl, sym, ◌∙◌}
-use mathlib.Core.Logic.{◌⊎◌, inl, inr}
+use mathlib.Core.Logic.{inl, inr}
 use mathlib.Core.Bool.{true}
 use mathlib.Core.List.{List}
 use Rattle.std.specs.Prelude.{Option}
-use lib.ListN.{length, take, get_or, set, replicate, length-set}
+use lib.ListN.{length, take, get_or, set, replicate}
 use lib.Seq.{get_or-set_same, get_or-set_other}
 use Rattle.tree.specs.Search.{smaller_by}
 use Rattle.tree.specs.Tree.{sum}
 use Rattle.tree.specs.Record.{path_at, legal}
 use Rattle.paths.specs.Rules.{Family, Spot, spot_start, spot_at, best_on_path}
-use Rattle.candidates.specs.declared.spot.PathNode.{PathNode}
-use Rattle.candidates.specs.Searched.{NodeOf, Earlier, SeenNode, Seen, SearchedTo}
+use Rattle.candidates.specs.Searched.{Earlier, SeenNode, Seen, SearchedTo}
 use Rattle.candidates.proofs.Marks.{zero_entry}
 use Rattle.candidates.proofs.NothingBetter.{NoBetter, earlier_no_better}
 use Rattle.candidates.proofs.OneNode.{lines_of_one_offset, met_no_better}
 
 pub nothing_seen : (family : Family) → Seen family 0 0 (replicate 2047 0)
-nothing_seen family = record { offsets = refl; each = λ r some. absurd (some (zero_entry 2047 r)) }
+nothing_seen family = record { each = λ r some. absurd (some (zero_entry 2047 r)) }
 
 -- what was seen stays seen
 module _ {family : Family} {L l K k : ℕ} (on : (M j : ℕ) → Earlier M j L l → Earlier M j K k) where
@@ -37,7 +36,7 @@ module _ {family : Family} {L l K k : ℕ} (on : (M j : ℕ) → Earlier M j L l
   }
 
   seen_later : {seen : List ℕ} → Seen family L l seen → Seen family K k seen
-  seen_later nodes = record { offsets = nodes.offsets; each = λ r some. seen_node_later (nodes.each r some) }
+  seen_later nodes = record { each = λ r some. seen_node_later (nodes.each r some) }
 
 earlier_next_level : {L l : ℕ} (M j : ℕ) → Earlier M j L l → Earlier M j L (l + 1)
 earlier_next_level M j (inl h) = inl h
@@ -54,13 +53,12 @@ pub seen_next_line : {family : Family} {L l : ℕ} {seen : List ℕ} → Seen fa
 seen_next_line = seen_later earlier_next_line
 
 -- one node more is noted
-pub seen_more : {family : Family} {L l r : ℕ} {seen : List ℕ} → Seen family L l seen → l < length (family L) → r ≡ sum (take l (family L)) → r < 2047 → {n : ℕ} → n ≡ l + 1 → {after : List ℕ} → after ≡ set seen r n → Seen family L (l + 1) after
+pub seen_more : {family : Family} {L l r : ℕ} {seen : List ℕ} → Seen family L l seen → l < length (family L) → r ≡ sum (take l (family L)) → r < length seen → {n : ℕ} → n ≡ l + 1 → {after : List ℕ} → after ≡ set seen r n → Seen family L (l + 1) after
 seen_more {family} {L} {l} {r} {seen} nodes there offset_is small {n} next written = rw written record {
-  offsets = length-set seen r n ∙ nodes.offsets;
   each = λ q some.
       elim (ℕ_discrete q r) [
         | yes here ↦
-            let entry : get_or (set seen r n) q 0 ≡ n = rw here (get_or-set_same seen r n 0 (omega (arith, nodes.offsets))) in
+            let entry : get_or (set seen r n) q 0 ≡ n = rw here (get_or-set_same seen r n 0 small) in
             rw entry record {
               line = L;
               level = l;

@@ -27,7 +27,6 @@ pub record SeenNode (family : Family) (L l r n : ℕ) : Type 0 where
 
 -- what has been noted before level l of line L's path: for each offset 0, or a node there
 pub record Seen (family : Family) (L l : ℕ) (seen : List ℕ) : Type 0 where
-  pub offsets : length seen ≡ 2047
   pub each : (r : ℕ) → (get_or seen r 0 ≡ 0 → ⊥) → SeenNode family L l r (get_or seen r 0)
 
 -- the search for period p has come to level l of line L's path: the best of the lines before and of the levels above, and the nodes seen

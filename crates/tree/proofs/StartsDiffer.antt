@@ -8,7 +8,7 @@ use mathlib.Core.Path.{◌≡◌, refl, sym, ◌∙◌, ap}
 use mathlib.Core.Bool.{true, false, false≢true, and-eq-true_iff}
 use mathlib.Core.Logic.{inl, inr}
 use Rattle.std.specs.Prelude.{Some, unwrap_or}
-use Rattle.tree.specs.Numbers.{divides, gcd}
+use Rattle.tree.specs.Numbers.{divides}
 use Rattle.tree.specs.Search.{found}
 use Rattle.tree.specs.Tree.{Tree, nothing, line, node, present, Place, product, at_digits, at, way_by_digits, way, step}
 use Rattle.tree.specs.Shape.{Legal}

@@ -1,32 +1,29 @@
-use Rattle.std.proofs.Common.{rules, ◌≡◌, true, ◌+◌, ◌*◌, ◌<◌, ◌≤◌, length, ℕ, ◌-◌, ◌/◌, ◌%◌, Bool, false, nat_eq, nat_lt, List, [], ◌∷◌, ◌++◌, slice_index_or, slice_set, bit_and, bit_or, Fits, w8, w32, w64, Bor, MutBor}
-use Rattle.tree.specs.Numbers.{gcd, divides}
-use Rattle.tree.specs.Search.{smaller_by}
-use Rattle.tree.specs.Record.{path_at}
-use Rattle.paths.specs.Rules.{spot_start, class_on_path, spot_at, best_on_path, best_of_lines}
-use Rattle.candidates.specs.Answers.{spot_of, starts_by}
-use Rattle.candidates.specs.Searched.{NodeOf, SearchedTo, Seen}
+-- `candidates::better` meets its contract: what starts too late is no better, and any other offer is.
+-- Assumes nothing.
+use native.Mathlib.Omega.{arith}
+use mathlib.Core.Path.{sym}
+use Rattle.candidates.proofs.NodeOnPath.{offset_and_step, past_edge_0}
+use Rattle.candidates.proofs.NothingBetter.{none_no_better, starts_by_no_better, offer_no_better, offer_better}
+use Rattle.paths.proofs.PathRows.{within_path}
+use Rattle.paths.specs.Rules.{spot_start}
 use Rattle.candidates.proofs.better.Goals as goal
 
--- src/lib.rt:89:8
 pub edge-requires : goal.edge-requires
-edge-requires c = ?
+edge-requires c = within_path _ _ c.requires.node_of.on_path
 
--- src/lib.rt:90:28
 pub overflow_add-node : goal.overflow_add-node
-overflow_add-node c = ?
+overflow_add-node c = omega (arith, offset_and_step _ c.requires.node_of c.args.lines.record.is_legal c.args.node.line.below_64)
 
--- src/lib.rt:91:13
 pub returns-then-starts_by : goal.returns-then-starts_by
-returns-then-starts_by c = ?
+returns-then-starts_by c = sym (starts_by_no_better _ _ (sym c.if-starts_by.ensures) _ (past_edge_0 _ c.requires.node_of c.args.node.line.below_64 _ c.edge.ensures c.if-edge-eq0.true))
 
--- src/lib.rt:95:9
 pub returns-in_default : goal.returns-in_default
-returns-in_default c = ?
+returns-in_default c = rw (← c.in_default.ensures) (sym (none_no_better _))
 
--- src/lib.rt:98:9
 pub returns-then-starts_by-2 : goal.returns-then-starts_by-2
-returns-then-starts_by-2 c = ?
+unfolding spot_start
+returns-then-starts_by-2 c = rw (← c.in-Some.ensures) (sym (offer_no_better _ _ c.start.ensures (sym c.if-starts_by-2.ensures)))
 
--- src/lib.rt:84:1
 pub returns : goal.returns
-returns c = ?
+unfolding spot_start
+returns c = rw (← c.in-Some.ensures) (sym (offer_better _ _ c.start.ensures (sym c.if-starts_by-2.ensures)))

@@ -1,7 +1,5 @@
 -- `candidates::starts_by` meets its contract.
 -- Assumes nothing.
-use lib.Dec.{leb}
-use mathlib.Core.Path.{ap}
 use Rattle.candidates.specs.Answers.{starts_by}
 use Rattle.paths.specs.Rules.{spot_start}
 use Rattle.candidates.proofs.starts_by.Goals as goal
