@@ -13,8 +13,8 @@ use second::record::{drawn_write, Held};
 use second::shapes::Shape;
 use std::array;
 
-const LISTS_OF_A_SHAPE: usize = 25;
-const DAMAGED_OF_A_SHAPE: usize = 50;
+const LISTS_OF_A_SHAPE: usize = 30;
+const DAMAGED_OF_A_SHAPE: usize = 60;
 const WRITES: usize = 8;
 const ROUNDS: u16 = 1000;
 const MOST: u16 = u16::MAX;
