@@ -7,7 +7,7 @@ ghost use Rattle.tree.specs.Search.{smaller_by};
 ghost use Rattle.tree.specs.Record.{path_at};
 ghost use Rattle.paths.specs.Rules.{spot_start, class_on_path, spot_at, best_on_path, best_of_lines};
 ghost use Rattle.candidates.specs.Answers.{spot_of, starts_by};
-ghost use Rattle.candidates.specs.Searched.{NodeOf, SearchedTo, Seen};
+ghost use Rattle.candidates.specs.Searched.{NodeOf, SearchedTo};
 
 use open_lines::OpenLines;
 use paths::{edge, is_closed, path_length, weight};

@@ -9,7 +9,7 @@ use Rattle.paths.specs.Rules.{spot_start}
 use Rattle.candidates.proofs.better.Goals as goal
 
 pub edge-requires : goal.edge-requires
-edge-requires c = within_path _ _ c.requires.node_of.on_path
+edge-requires c = omega (arith, within_path _ _ c.requires.node_of.on_path)
 
 pub overflow_add-node : goal.overflow_add-node
 overflow_add-node c = omega (arith, offset_and_step _ c.requires.node_of c.args.lines.record.is_legal c.args.node.line.below_64)

@@ -1,5 +1,6 @@
 -- `candidates::spot_at` meets its contract: a class is free, or there is no candidate.
 -- Assumes nothing.
+use native.Mathlib.Omega.{arith}
 use mathlib.Core.Path.{sym}
 use Rattle.paths.proofs.PathRows.{within_path}
 use Rattle.candidates.proofs.NodeOnPath.{carried, step_positive, offered}
@@ -7,7 +8,7 @@ use Rattle.candidates.proofs.Spots.{start_small}
 use Rattle.candidates.proofs.spot_at.Goals as goal
 
 pub weight-w-requires : goal.weight-w-requires
-weight-w-requires c = within_path _ _ c.requires.node_of.on_path
+weight-w-requires c = omega (arith, within_path _ _ c.requires.node_of.on_path)
 
 pub nonzero_div-period : goal.nonzero_div-period
 nonzero_div-period c = step_positive _ c.requires.node_of c.args.lines.record.is_legal c.args.node.line.below_64
