@@ -16,7 +16,7 @@ use Rattle.paths.specs.Rules.{row_of, same_node, line_under, class_taken, class_
 use Rattle.tree.proofs.Searching.{some_below_true, some_below_at, some_below_none}
 use Rattle.paths.proofs.AllBelow.{so_far_more}
 use Rattle.paths.proofs.NoneBelow.{NoneBelow, smallest_here, smallest_nowhere}
-use Rattle.candidates.specs.Edges.{marked, edge_present, MarksPresent}
+use Rattle.candidates.specs.Edges.{marked, edge_present, MarksPresent, FirstThrough}
 use Rattle.candidates.proofs.PresentEdges.{takes_edge, edge_of_node}
 
 -- no line takes an edge of class i
@@ -64,7 +64,7 @@ module _ (rows : List ℕ) (L l : ℕ) {marks : List ℕ} (marks_present : Marks
     class_passed mark = so_far_more searched in_range (ap not (rw edge_class at (marked_takes d e mark)))
 
     -- all edges of the class below the weight were searched
-    module _ (is_legal : legal rows ≡ true) (line_below : L < 64) (past : (row_of l (path_at rows L)).weight ≤ e) where
+    module _ (first : FirstThrough rows L l) (is_legal : legal rows ≡ true) (past : (row_of l (path_at rows L)).weight ≤ e) where
       edge_unmarked : (k : ℕ) → k < (row_of l (path_at rows L)).weight → k % d ≡ i → marked marks k ≡ false
       edge_unmarked k below class_is =
           let digits : i + d * (k / d) ≡ k = rw (← class_is) (mod-add-div k d) in
@@ -82,7 +82,7 @@ module _ (rows : List ℕ) (L l : ℕ) {marks : List ℕ} (marks_present : Marks
           go false apart = refl
           go true through =
               let is_present = some_below_at 64 (takes_edge rows L l k) M below (rw through (eq-eqb k k refl)) in
-              ne_eqb (k % d) i (λ same. true≢false (sym is_present ∙ sym (marks_present.each k) ∙ edge_unmarked k (edge_of_node rows is_legal L l line_below below through) same))
+              ne_eqb (k % d) i (λ same. true≢false (sym is_present ∙ sym (marks_present.each k) ∙ edge_unmarked k (edge_of_node first is_legal below through) same))
 
       pub class_free : class_on_path (path_at rows) (path_at rows L) l d ≡ Some i
       unfolding class_on_path class_taken

@@ -9,7 +9,7 @@ use mathlib.Core.Bool.{Bool, true, false, true≢false}
 use mathlib.Core.Logic.{inl}
 use lib.Dec.{ltb}
 use lib.ListN.{length}
-use borrow.Author.Tests.{ltb-false, le-ltb, lt-ltb, leb-true, leb-false}
+use borrow.Author.Tests.{ltb-true, ltb-false, le-ltb, lt-ltb, lt-leb, le-leb, leb-true, leb-false}
 use Rattle.std.proofs.lemmas.Option.{same_Some}
 use Rattle.tree.specs.Search.{smaller_by}
 use Rattle.tree.proofs.Picking.{Either}
@@ -47,6 +47,22 @@ starts_by_no_better None n h q later = absurd (true≢false (sym h))
 starts_by_no_better (Some b) n h None later = none_no_better (Some b)
 starts_by_no_better (Some b) n h (Some s) later =
     start_no_better s b (omega (arith, leb-true (spot_start b) n h, later s refl))
+
+pub starts_by_later : (o : Option Spot) (n m : ℕ) → n ≤ m → starts_by o n ≡ true → starts_by o m ≡ true
+unfolding starts_by
+starts_by_later None n m later h = absurd (true≢false (sym h))
+starts_by_later (Some b) n m later h = le-leb (spot_start b) m (omega (arith, leb-true (spot_start b) n h))
+
+-- what is better starts no later
+pub starts_by_better : (o q : Option Spot) (n : ℕ) → starts_by (smaller_by spot_start o q) n ≡ false → starts_by o n ≡ false
+unfolding starts_by smaller_by
+starts_by_better None q n h = refl
+starts_by_better (Some b) None n h = h
+starts_by_better (Some b) (Some s) n h = go (ltb (spot_start s) (spot_start b)) refl h
+  where
+    go : (t : Bool) → ltb (spot_start s) (spot_start b) ≡ t → starts_by (if t then Some s else Some b) n ≡ false → starts_by (Some b) n ≡ false
+    go true e k = lt-leb (spot_start b) n (omega (arith, ltb-true (spot_start s) (spot_start b) e, leb-false (spot_start s) n k))
+    go false e k = k
 
 -- n is the start that a spot offers
 module _ (o : Option Spot) (s : Spot) {n : ℕ} (start_is : n ≡ spot_start s) where

@@ -22,11 +22,11 @@ use Rattle.paths.proofs.PathNumbers.{Carried, carried_start, carried_row, carrie
 use Rattle.paths.proofs.RowLaws.{no_rows_empty}
 use Rattle.candidates.specs.Answers.{starts_by}
 use Rattle.candidates.specs.Edges.{ClosedFrom}
-use Rattle.candidates.specs.Searched.{SearchedTo}
+use Rattle.candidates.specs.Searched.{Reached, SearchedTo}
 use Rattle.candidates.proofs.LinesEnd.{best_before_end}
-use Rattle.candidates.proofs.NothingBetter.{NoBetter, none_no_better, starts_by_no_better}
+use Rattle.candidates.proofs.NothingBetter.{NoBetter, none_no_better, starts_by_no_better, starts_by_later}
 use Rattle.candidates.proofs.Spots.{step_not_dividing, offer_from_offset}
-use Rattle.candidates.proofs.SeenNodes.{nothing_seen, seen_next_line}
+use Rattle.candidates.proofs.SeenNodes.{nothing_seen, none_earlier, seen_next_line, earlier_or_rest}
 
 -- Farther down a path
 
@@ -78,12 +78,18 @@ module _ (rows : List ℕ) {p L l : ℕ} {best : Option Spot} {seen : List ℕ} 
         | inr later ↦ rw (rest_no_better n (omega arith) (λ k past_l below. worse k past_l (omega arith))) (worse n (omega arith) (omega arith))
       ]
 
-  -- and the search goes on with the next line
-  pub path_left : l ≤ length (path_at rows L) → ((k : ℕ) → l ≤ k → k < length (path_at rows L) → NoBetter (spot_at (path_at rows) p L k) best) → SearchedTo (path_at rows) p (L + 1) 0 best seen
+  -- and where the search would not come to them either, it goes on with the next line
+  pub path_left :
+      l ≤ length (path_at rows L) → ((k : ℕ) → l ≤ k → k < length (path_at rows L) → NoBetter (spot_at (path_at rows) p L k) best × (Reached p best (path_at rows L) k → ⊥)) →
+      SearchedTo (path_at rows) p (L + 1) 0 best seen
   unfolding best_on_path best_of_lines
-  path_left within worse = record {
-    best_is = rw (add-one L) (sym (rest_no_better (length (path_at rows L)) within worse));
+  path_left within gone = record {
+    best_is = rw (add-one L) (sym (rest_no_better (length (path_at rows L)) within (λ k past there. (gone k past there).0)));
     nodes_seen = seen_next_line searched.nodes_seen;
+    none_missed = λ M j earlier on reached. elim (earlier_or_rest M j earlier) [
+      | inl before ↦ searched.none_missed M j before on reached
+      | inr rest ↦ absurd ((gone j rest.1 (rw rest.0 at on)).1 (rw rest.0 at reached))
+    ];
   }
 
 -- a closed line offers nothing
@@ -95,18 +101,24 @@ module _ {rows : List ℕ} {p L l m r : ℕ} {best : Option Spot} {seen : List �
   pub path_at_end : length (path_at rows L) ≤ l → SearchedTo (path_at rows) p (L + 1) 0 best seen
   path_at_end past = path_left rows search.searched search.carried.within (λ k past_l there. absurd (omega arith))
 
+  pub still_reached : divides m p ≡ true → starts_by best r ≡ false → Reached p best (path_at rows L) l
+  still_reached divided in_time = record { divided = rw search.carried.product_is at divided; in_time = rw search.carried.sum_is at in_time }
+
   -- the offset is not below the best start so far
   pub offset_too_large : starts_by best r ≡ true → SearchedTo (path_at rows) p (L + 1) 0 best seen
-  offset_too_large reached =
+  offset_too_large too_large =
       path_left rows search.searched search.carried.within λ k past there.
-      starts_by_no_better best r reached (spot_at (path_at rows) p L k) λ s offered.
-      omega (arith, search.carried.sum_is, offset_grows (path_at rows L) l k past, offer_from_offset (path_at rows) p L k s offered)
+      let farther : r ≤ sum (take k (path_at rows L)) = omega (arith, search.carried.sum_is, offset_grows (path_at rows L) l k past) in (
+        starts_by_no_better best r too_large (spot_at (path_at rows) p L k) (λ s offered. omega (arith, farther, offer_from_offset (path_at rows) p L k s offered)),
+        λ reached. true≢false (sym (starts_by_later best r (sum (take k (path_at rows L))) farther too_large) ∙ reached.in_time),
+      )
 
   -- the step does not divide the period
   pub step_too_far : divides m p ≡ false → SearchedTo (path_at rows) p (L + 1) 0 best seen
   step_too_far other =
       path_left rows search.searched search.carried.within λ k past there.
-      rw (step_not_dividing (path_at rows) p L k (step_divides_no_more (path_at rows L) l k p past (rw search.carried.product_is at other))) (none_no_better best)
+      let farther = step_divides_no_more (path_at rows L) l k p past (rw search.carried.product_is at other) in
+      (rw (step_not_dividing (path_at rows) p L k farther) (none_no_better best), λ reached. true≢false (sym reached.divided ∙ farther))
 
   -- one level more
   pub path_search_more : l < length (path_at rows L) → {e w : ℕ} → e ≡ (row_at rows L l).edge → w ≡ (row_at rows L l).weight → {next : Option Spot} {after : List ℕ} →
@@ -129,7 +141,7 @@ module _ {rows : List ℕ} {p L l m r : ℕ} {best : Option Spot} {seen : List �
 
 pub search_first : (rows : List ℕ) (p : ℕ) → SearchedTo (path_at rows) p 0 0 None (replicate 2047 0)
 unfolding best_on_path best_of_lines
-search_first rows p = record { best_is = refl; nodes_seen = nothing_seen (path_at rows) }
+search_first rows p = record { best_is = refl; nodes_seen = nothing_seen (path_at rows); none_missed = λ M j earlier. absurd (none_earlier M j earlier) }
 
 -- the lines from `end` on are closed
 pub search_last : (rows : List ℕ) {p n end : ℕ} {best : Option Spot} {seen : List ℕ} → SearchedTo (path_at rows) p n 0 best seen → ClosedFrom rows end → end ≤ n → n ≤ 64 → best ≡ best_of_lines (path_at rows) p 64

@@ -1,11 +1,11 @@
--- The edges that lines take at a node, and the invariant of the loop that marks them (specs/Edges.antt).
+-- The edges that lines take at a node which no earlier line goes through (`FirstThrough`, specs/Edges.antt), and the invariant of the loop that marks them.
 -- Assumes nothing.
 use Prim.Native.Nat.{ℕ, ◌+◌, ◌<◌, ◌≤◌}
 use native.Mathlib.Omega.{arith}
 use mathlib.Core.Path.{◌≡◌, refl, sym, ◌∙◌, ap}
 use mathlib.Core.Logic.{inl, inr}
 use Rattle.std.proofs.lemmas.Bool.{cases_order}
-use mathlib.Core.Bool.{Bool, true, false, ◌&&◌, or-false}
+use mathlib.Core.Bool.{Bool, true, false, ◌&&◌, true≢false, or-false}
 use mathlib.Core.List.{List}
 use lib.Dec.{eqb}
 use lib.ListN.{length, replicate}
@@ -19,25 +19,31 @@ use Rattle.paths.proofs.RowLaws.{no_rows_empty}
 use Rattle.paths.proofs.PathNumbers.{edge_below_weight, weight_small}
 use Rattle.paths.proofs.PathRows.{row_in_path}
 use Rattle.paths.proofs.SameNode.{same_node_none, same_node_comm, same_node_goes_on}
-use Rattle.candidates.specs.Edges.{marked, with_mark, edge_present, MarksPresent, ClosedFrom}
+use Rattle.candidates.specs.Edges.{marked, with_mark, edge_present, MarksPresent, ClosedFrom, FirstThrough}
 use Rattle.candidates.proofs.OneNode.{lines_through_one}
 use Rattle.candidates.proofs.Marks.{none_marked, with_mark_length, marked_more}
 
 -- The lines through the node
 
-module _ (rows : List ℕ) (is_legal : legal rows ≡ true) (L l : ℕ) (line_below : L < 64) where
-  module _ {M : ℕ} (below : M < 64) (through : same_node l (path_at rows L) (path_at rows M) ≡ true) where
+module _ {rows : List ℕ} {L l : ℕ} (first : FirstThrough rows L l) {M : ℕ} where
+  earlier_line_apart : M < L → same_node l (path_at rows L) (path_at rows M) ≡ false
+  earlier_line_apart earlier = same_node_comm l (path_at rows L) (path_at rows M) ∙ first.first M earlier
+
+  module _ (is_legal : legal rows ≡ true) (below : M < 64) (through : same_node l (path_at rows L) (path_at rows M) ≡ true) where
     one_weight : (row_of l (path_at rows M)).weight ≡ (row_of l (path_at rows L)).weight
     one_weight =
         elim (cases_order M L) [
           | inl same ↦ rw same
-          | inr (inl earlier) ↦ (lines_through_one rows is_legal l M L line_below earlier (same_node_comm l (path_at rows M) (path_at rows L) ∙ through)).weight_is
+          | inr (inl earlier) ↦ absurd (true≢false (sym through ∙ earlier_line_apart earlier))
           | inr (inr later) ↦ sym (lines_through_one rows is_legal l L M below later through).weight_is
         ]
 
     -- it takes an edge below the node's weight
     pub edge_of_node : (row_of l (path_at rows M)).edge < (row_of l (path_at rows L)).weight
     edge_of_node = rw one_weight at (edge_below_weight rows is_legal M below (same_node_goes_on l (path_at rows L) (path_at rows M) through).1)
+
+pub node_weight_small : {rows : List ℕ} {L l : ℕ} → FirstThrough rows L l → legal rows ≡ true → L < 64 → (row_of l (path_at rows L)).weight ≤ 4095
+node_weight_small {rows} {L} first is_legal line_below = weight_small rows is_legal L line_below first.on_path
 
 -- The loop
 
@@ -51,11 +57,12 @@ pub record Marking (rows : List ℕ) (L l : ℕ) (marks : List ℕ) (M : ℕ) : 
   pub words : length marks ≡ 64
   pub each : (e : ℕ) → marked marks e ≡ some_below M (takes_edge rows L l e)
 
-pub marking_start : (rows : List ℕ) (L l : ℕ) → Marking rows L l (replicate 64 0) 0
-marking_start rows L l = record {
+-- no line below L goes through the node
+pub marking_start : {rows : List ℕ} {L l : ℕ} → FirstThrough rows L l → L < 64 → Marking rows L l (replicate 64 0) L
+marking_start {rows} {L} {l} first line_below = record {
   within = omega arith;
   words = refl;
-  each = λ e. none_marked e ∙ sym (some_below_none 0 (takes_edge rows L l e) (λ M below. absurd (omega arith)));
+  each = λ e. none_marked e ∙ sym (some_below_none L (takes_edge rows L l e) (λ M earlier. ap (λ (b : Bool). b && eqb (row_of l (path_at rows M)).edge e) (earlier_line_apart first earlier)));
 }
 
 module _ {rows : List ℕ} {L l : ℕ} {marks : List ℕ} {M : ℕ} (marking : Marking rows L l marks M) (below : M < 64) where
@@ -67,12 +74,12 @@ module _ {rows : List ℕ} {L l : ℕ} {marks : List ℕ} {M : ℕ} (marking : M
   }
 
   -- e was read as the edge in row l of line M
-  module _ (meets : same_node l (path_at rows L) (path_at rows M) ≡ true) {e : ℕ} (read : e ≡ (row_at rows M l).edge) (is_legal : legal rows ≡ true) (line_below : L < 64) (there : l < length (path_at rows L)) where
+  module _ (meets : same_node l (path_at rows L) (path_at rows M) ≡ true) {e : ℕ} (read : e ≡ (row_at rows M l).edge) (first : FirstThrough rows L l) (is_legal : legal rows ≡ true) (line_below : L < 64) where
     edge_is : (row_of l (path_at rows M)).edge ≡ e
     edge_is = ap (λ (r : Row). r.edge) (row_in_path rows M (same_node_goes_on l (path_at rows L) (path_at rows M) meets).1) ∙ sym read
 
     pub edge_small : e < 4096
-    edge_small = omega (arith, edge_is, edge_of_node rows is_legal L l line_below below meets, weight_small rows is_legal L line_below there)
+    edge_small = omega (arith, edge_is, edge_of_node first is_legal below meets, node_weight_small first is_legal line_below)
 
     pub marking_through : {after : List ℕ} → after ≡ with_mark marks e → Marking rows L l after (M + 1)
     marking_through written = rw written record {

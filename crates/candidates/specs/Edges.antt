@@ -1,11 +1,11 @@
 -- The present edges of a node, marked in words of 64 bits, and the lines that are looked at for them.
 -- Assumes nothing.
-use Rattle.std.specs.Prelude.{ℕ, suc, ◌/◌, ◌%◌, ◌^◌, ◌<◌, ◌≤◌, ◌≡◌, Bool, true, false, List, eqb, get_or, set}
+use Rattle.std.specs.Prelude.{ℕ, suc, ◌/◌, ◌%◌, ◌^◌, ◌<◌, ◌≤◌, ◌≡◌, Bool, true, false, List, eqb, length, get_or, set}
 use Rattle.std.specs.Int.Bits.{bit_or}
 use Rattle.tree.specs.declared.Row.{Row}
 use Rattle.tree.specs.Search.{found}
 use Rattle.tree.specs.Record.{path_at, no_rows}
-use Rattle.paths.specs.Rules.{Family, line_under}
+use Rattle.paths.specs.Rules.{Family, same_node, line_under}
 
 -- edge e is marked: bit e % 64 of word e / 64 is set
 unfoldable pub marked : List ℕ → ℕ → Bool
@@ -32,3 +32,8 @@ pub record ClosedFrom (rows : List ℕ) (end : ℕ) : Type 0 where
 pub record EndOfLines (rows : List ℕ) (end : ℕ) : Type 0 where
   pub closed_from : ClosedFrom rows end
   pub last_open : (M : ℕ) → end ≡ suc M → no_rows (path_at rows M) ≡ false
+
+-- line L is the first whose path goes through the node at level l of its path
+pub record FirstThrough (rows : List ℕ) (L l : ℕ) : Type 0 where
+  pub on_path : l < length (path_at rows L)
+  pub first : (M : ℕ) → M < L → same_node l (path_at rows M) (path_at rows L) ≡ false

@@ -1,10 +1,13 @@
 -- How far the search has come, and which nodes it has looked at.
 -- Assumes nothing.
-use Rattle.std.specs.Prelude.{ℕ, suc, ◌<◌, ◌≡◌, List, length, get_or, take, Option}
+use Rattle.std.specs.Prelude.{ℕ, suc, ◌<◌, ◌≡◌, true, false, List, length, get_or, take, Option}
 use mathlib.Core.Logic.{◌⊎◌}
+use Rattle.tree.specs.declared.Row.{Row}
+use Rattle.tree.specs.Numbers.{divides}
 use Rattle.tree.specs.Tree.{product, sum}
 use Rattle.paths.specs.Rules.{Family, Spot, best_on_path, best_of_lines}
 use Rattle.candidates.specs.declared.spot.PathNode.{PathNode}
+use Rattle.candidates.specs.Answers.{starts_by}
 
 -- the node is the one at its level of its line's path
 pub record NodeOf (family : Family) (node : PathNode) : Type 0 where
@@ -29,7 +32,14 @@ pub record SeenNode (family : Family) (L l r n : ℕ) : Type 0 where
 pub record Seen (family : Family) (L l : ℕ) (seen : List ℕ) : Type 0 where
   pub each : (r : ℕ) → (get_or seen r 0 ≡ 0 → ⊥) → SeenNode family L l r (get_or seen r 0)
 
--- the search for period p has come to level l of line L's path: the best of the lines before and of the levels above, and the nodes seen
+-- the search still comes to level j of path rs: the step there divides p, and the offset is below the best start so far
+pub record Reached (p : ℕ) (best : Option Spot) (rs : List Row) (j : ℕ) : Type 0 where
+  pub divided : divides (product (take j rs)) p ≡ true
+  pub in_time : starts_by best (sum (take j rs)) ≡ false
+
+-- the search for period p has come to level l of line L's path: the best of the lines before and of the levels above; what was noted; and each node passed to
+-- which the search still comes was noted
 pub record SearchedTo (family : Family) (p L l : ℕ) (best : Option Spot) (seen : List ℕ) : Type 0 where
   pub best_is : best ≡ best_on_path family p (best_of_lines family p L) L l
   pub nodes_seen : Seen family L l seen
+  pub none_missed : (M j : ℕ) → Earlier M j L l → j < length (family M) → Reached p best (family M) j → j < get_or seen (sum (take j (family M))) 0

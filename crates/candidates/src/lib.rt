@@ -7,7 +7,8 @@ ghost use Rattle.tree.specs.Search.{smaller_by};
 ghost use Rattle.tree.specs.Record.{path_at};
 ghost use Rattle.paths.specs.Rules.{spot_start, class_on_path, spot_at, best_on_path, best_of_lines};
 ghost use Rattle.candidates.specs.Answers.{spot_of, starts_by};
-ghost use Rattle.candidates.specs.Searched.{NodeOf, SearchedTo};
+ghost use Rattle.candidates.specs.Edges.{FirstThrough};
+ghost use Rattle.candidates.specs.Searched.{NodeOf, Reached, SearchedTo};
 
 use open_lines::OpenLines;
 use paths::{edge, is_closed, path_length, weight};
@@ -33,10 +34,10 @@ pub fn gcd(a: u16, b: u16) -> u16
     larger
 }
 
-// The smallest class modulo d none of whose edges is present.
+// The smallest class modulo d none of whose edges is present, of a node that no earlier line goes through.
 // The present edges are marked once; each that is met leaves to the next class, by label as document 01 has it.
 pub fn free_class(lines: OpenLines<'_>, node: PathNode, d: u16) -> Option<u16>
-    requires { node.level < length (path_at lines.record.rows.now node.line.number) }
+    requires { FirstThrough lines.record.rows.now node.line.number node.level }
     ensures { let rows = lines.entry.record.rows.now in result ≡ class_on_path (path_at rows) (path_at rows node.line.number) node.level d }
 {
     let mut present = [0; 64];
@@ -55,6 +56,7 @@ pub fn free_class(lines: OpenLines<'_>, node: PathNode, d: u16) -> Option<u16>
 
 // What a node has to offer, where its step divides the period.
 fn spot_at(lines: OpenLines<'_>, node: PathNode, period: Period) -> Option<Spot>
+    requires first { FirstThrough lines.record.rows.now node.line.number node.level }
     requires node_of { NodeOf (path_at lines.record.rows.now) node }
     requires step_divides { divides node.step period.0 ≡ true }
     ensures { spot_of result ≡ spot_at (path_at lines.entry.record.rows.now) period.0 node.line.number node.level }
@@ -82,6 +84,7 @@ fn starts_by(best: Option<Spot>, round: u16) -> bool
 // The better of the best so far and what a node has to offer: the one of smaller start.
 // Where the line takes edge 0 there, class 0 is taken whatever d is, so that nothing starts before offset + step: often no class has to be searched for.
 fn better(lines: OpenLines<'_>, node: PathNode, period: Period, best: Option<Spot>) -> Option<Spot>
+    requires first { FirstThrough lines.record.rows.now node.line.number node.level }
     requires node_of { NodeOf (path_at lines.record.rows.now) node }
     requires step_divides { divides node.step period.0 ≡ true }
     ensures { spot_of result ≡ smaller_by spot_start (spot_of best) (spot_at (path_at lines.entry.record.rows.now) period.0 node.line.number node.level) }
@@ -110,7 +113,7 @@ fn look_at(
     best: Option<Spot>,
 ) -> Option<Spot>
     requires node_of { NodeOf (path_at lines.record.rows.now) node }
-    requires step_divides { divides node.step period.0 ≡ true }
+    requires reached { Reached period.0 (spot_of best) (path_at lines.record.rows.now node.line.number) node.level }
     requires searched { SearchedTo (path_at lines.record.rows.now) period.0 node.line.number node.level (spot_of best) seen.old }
     ensures { SearchedTo (path_at lines.entry.record.rows.now) period.0 node.line.number (node.level + 1) (spot_of result) seen.new }
 {

@@ -3,7 +3,7 @@ use mathlib.Core.Path.{sym}
 use borrow.Author.Tests.{eq-eqb, ne_eqb}
 use Rattle.tree.specs.Numbers.{divides}
 use Rattle.paths.proofs.PathRest.{path_length_at_most_11}
-use Rattle.candidates.proofs.PathSearch.{search_from_root, path_at_end, offset_too_large, step_too_far, path_search_more, path_step_positive, next_offset_small, next_step_small}
+use Rattle.candidates.proofs.PathSearch.{search_from_root, path_at_end, still_reached, offset_too_large, step_too_far, path_search_more, path_step_positive, next_offset_small, next_step_small}
 use Rattle.candidates.proofs.best_on_path.Goals as goal
 
 pub loop-level-init : goal.loop-level-init
@@ -19,9 +19,9 @@ pub returns-then-period-step-ne0 : goal.returns-then-period-step-ne0
 unfolding divides
 returns-then-period-step-ne0 c = step_too_far c.loop-level.invariant (ne_eqb _ _ c.if-period-step-ne0.true)
 
-pub look_at-best-requires-clause-step_divides : goal.look_at-best-requires-clause-step_divides
+pub look_at-best-requires-clause-reached : goal.look_at-best-requires-clause-reached
 unfolding divides
-look_at-best-requires-clause-step_divides c = eq-eqb _ _ c.if-period-step-ne0.false
+look_at-best-requires-clause-reached c = still_reached c.loop-level.invariant (eq-eqb _ _ c.if-period-step-ne0.false) (sym c.if-starts_by.ensures)
 
 pub edge-requires : goal.edge-requires
 edge-requires c = omega (arith, path_length_at_most_11 c.args.lines.record.rows.now c.args.line.number)
