@@ -2,7 +2,7 @@ pub mod Euclid
 pub mod NothingBetter
 pub mod OneNode
 pub mod Spots
-pub mod NodeOnPath
+pub mod NodeNumbers
 pub mod Marks
 pub mod PresentEdges
 pub mod FreeClass

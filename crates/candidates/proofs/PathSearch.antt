@@ -1,4 +1,4 @@
--- The search along one path and over the lines (`SearchedTo`, specs/Searched.antt): a path is left where nothing better is offered from there on.
+-- The search along one path and over the lines (`SearchedTo`, specs/SearchedTo.antt): a path is left where nothing better is offered from there on.
 -- Assumes nothing.
 use Prim.Native.Nat.{ℕ, zero, suc, ◌+◌, ◌*◌, ◌<◌, ◌≤◌, ◌∣◌, zero-le}
 use native.Mathlib.Omega.{arith}
@@ -22,7 +22,7 @@ use Rattle.paths.proofs.PathNumbers.{Carried, carried_start, carried_row, carrie
 use Rattle.paths.proofs.RowLaws.{no_rows_empty}
 use Rattle.candidates.specs.Answers.{starts_by}
 use Rattle.candidates.specs.Edges.{ClosedFrom}
-use Rattle.candidates.specs.Searched.{Reached, SearchedTo}
+use Rattle.candidates.specs.SearchedTo.{Reached, SearchedTo}
 use Rattle.candidates.proofs.LinesEnd.{best_before_end}
 use Rattle.candidates.proofs.NothingBetter.{NoBetter, none_no_better, starts_by_no_better, starts_by_later}
 use Rattle.candidates.proofs.Spots.{step_not_dividing, offer_from_offset}
@@ -31,7 +31,7 @@ use Rattle.candidates.proofs.SeenNodes.{nothing_seen, none_earlier, seen_next_li
 -- Farther down a path
 
 -- the offset does not fall
-pub offset_grows : (rs : List Row) (l k : ℕ) → l ≤ k → sum (take l rs) ≤ sum (take k rs)
+offset_grows : (rs : List Row) (l k : ℕ) → l ≤ k → sum (take l rs) ≤ sum (take k rs)
 unfolding sum sum_from
 offset_grows [] zero k deeper = zero-le
 offset_grows [] (suc l) zero deeper = zero-le
@@ -52,7 +52,7 @@ step_multiple (r ∷ rs) (suc l) zero deeper = absurd (omega arith)
 step_multiple (r ∷ rs) (suc l) (suc k) deeper = mul-dvd-mul_left _ r.weight (step_multiple rs l k (omega arith))
 
 -- so where it does not divide p, no deeper one does
-pub step_divides_no_more : (rs : List Row) (l k p : ℕ) → l ≤ k → divides (product (take l rs)) p ≡ false → divides (product (take k rs)) p ≡ false
+step_divides_no_more : (rs : List Row) (l k p : ℕ) → l ≤ k → divides (product (take l rs)) p ≡ false → divides (product (take k rs)) p ≡ false
 unfolding divides
 step_divides_no_more rs l k p deeper other =
     not-eq-not.0 λ divided. true≢false (sym (eq-eqb _ _ (mod-eq-zero_of_dvd _ (dvd_trans _ (step_multiple rs l k deeper) (divides_true _ p divided)))) ∙ other)
@@ -79,7 +79,7 @@ module _ (rows : List ℕ) {p L l : ℕ} {best : Option Spot} {seen : List ℕ} 
       ]
 
   -- and where the search would not come to them either, it goes on with the next line
-  pub path_left :
+  path_left :
       l ≤ length (path_at rows L) → ((k : ℕ) → l ≤ k → k < length (path_at rows L) → NoBetter (spot_at (path_at rows) p L k) best × (Reached p best (path_at rows L) k → ⊥)) →
       SearchedTo (path_at rows) p (L + 1) 0 best seen
   unfolding best_on_path best_of_lines

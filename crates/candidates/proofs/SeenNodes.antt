@@ -1,4 +1,4 @@
--- The nodes that the search has looked at (`Seen`, specs/Searched.antt), and that such a node has nothing better to offer on a later path.
+-- The nodes that the search has looked at (`Seen`, specs/SearchedTo.antt), and that such a node has nothing better to offer on a later path.
 -- Assumes nothing.
 use Prim.Native.Nat.{ℕ, ◌+◌, ◌<◌, ◌≤◌}
 use native.Mathlib.Omega.{arith}
@@ -17,7 +17,7 @@ use Rattle.tree.specs.Record.{path_at, legal}
 use Rattle.paths.specs.Rules.{Family, same_node, Spot, spot_start, spot_at, best_on_path}
 use Rattle.paths.proofs.SameNode.{same_node_goes_on}
 use Rattle.candidates.specs.Edges.{FirstThrough}
-use Rattle.candidates.specs.Searched.{Earlier, SeenNode, Seen, Reached, SearchedTo}
+use Rattle.candidates.specs.SearchedTo.{Earlier, SeenNode, Seen, Reached, SearchedTo}
 use Rattle.candidates.proofs.Marks.{zero_entry}
 use Rattle.candidates.proofs.NothingBetter.{NoBetter, starts_by_better, earlier_no_better}
 use Rattle.candidates.proofs.OneNode.{lines_through_one, lines_of_one_offset, met_no_better}
@@ -48,7 +48,7 @@ earlier_next_line : {L l : ℕ} (M j : ℕ) → Earlier M j L l → Earlier M j 
 earlier_next_line M j (inl h) = inl (omega arith)
 earlier_next_line M j (inr h) = inl (omega (arith, h.0))
 
-pub seen_next_level : {family : Family} {L l : ℕ} {seen : List ℕ} → Seen family L l seen → Seen family L (l + 1) seen
+seen_next_level : {family : Family} {L l : ℕ} {seen : List ℕ} → Seen family L l seen → Seen family L (l + 1) seen
 seen_next_level = seen_later earlier_next_level
 
 pub seen_next_line : {family : Family} {L l : ℕ} {seen : List ℕ} → Seen family L l seen → Seen family (L + 1) 0 seen

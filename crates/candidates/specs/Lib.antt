@@ -1,3 +1,3 @@
 pub mod Answers
 pub mod Edges
-pub mod Searched
+pub mod SearchedTo

@@ -8,7 +8,7 @@ ghost use Rattle.tree.specs.Record.{path_at};
 ghost use Rattle.paths.specs.Rules.{spot_start, class_on_path, spot_at, best_on_path, best_of_lines};
 ghost use Rattle.candidates.specs.Answers.{spot_of, starts_by};
 ghost use Rattle.candidates.specs.Edges.{FirstThrough};
-ghost use Rattle.candidates.specs.Searched.{NodeOf, Reached, SearchedTo};
+ghost use Rattle.candidates.specs.SearchedTo.{NodeOf, Reached, SearchedTo};
 
 use open_lines::OpenLines;
 use paths::{edge, is_closed, path_length, weight};
@@ -82,17 +82,17 @@ fn starts_by(best: Option<Spot>, round: u16) -> bool
 }
 
 // The better of the best so far and what a node has to offer: the one of smaller start.
-// Where the line takes edge 0 there, class 0 is taken whatever d is, so that nothing starts before offset + step: often no class has to be searched for.
+// Where the line takes edge 0 there, class 0 is taken whatever d is, and nothing starts before offset + step: often no class has
+// to be searched for.
 fn better(lines: OpenLines<'_>, node: PathNode, period: Period, best: Option<Spot>) -> Option<Spot>
     requires first { FirstThrough lines.record.rows.now node.line.number node.level }
     requires node_of { NodeOf (path_at lines.record.rows.now) node }
     requires step_divides { divides node.step period.0 ≡ true }
     ensures { spot_of result ≡ smaller_by spot_start (spot_of best) (spot_at (path_at lines.entry.record.rows.now) period.0 node.line.number node.level) }
 {
-    if edge(lines.record.rows, node.line, node.level) == 0 {
-        if starts_by(best, node.offset + node.step) {
-            return best;
-        }
+    let edge = edge(lines.record.rows, node.line, node.level);
+    if edge == 0 && starts_by(best, node.offset + node.step) {
+        return best;
     }
     let Some(spot) = spot_at(lines, node, period) else {
         return best;
@@ -103,8 +103,8 @@ fn better(lines: OpenLines<'_>, node: PathNode, period: Period, best: Option<Spo
     Some(spot)
 }
 
-// A node is looked at once: `seen` has for each offset 1 + the level of a node there that was looked at, and 0 where none was.
-// A path through that node goes through all nodes of this offset and a smaller level, so that they were looked at too.
+// A node is looked at once, on the first path through it: `seen` has for each offset 1 + the largest level looked at there, and 0
+// where none was. The path to that level goes through all nodes of this offset, so that the smaller levels were looked at too.
 fn look_at(
     lines: OpenLines<'_>,
     node: PathNode,
@@ -125,8 +125,8 @@ fn look_at(
     better(lines, node, period, best)
 }
 
-// The best of the earlier lines, or the best node of a line's path where that is better. The path is left where its offset is not below the best start so far,
-// as no deeper one is, and where its step does not divide the period, as no deeper one does.
+// The best of the earlier lines, or the best node of a line's path where that is better. The path is left where its offset is not
+// below the best start so far, as no deeper one is, and where its step does not divide the period, as no deeper one does.
 fn best_on_path(
     lines: OpenLines<'_>,
     line: Line,
@@ -161,7 +161,8 @@ fn best_on_path(
     best
 }
 
-// The chosen candidate for a period: of all levels, the one of smallest start. A closed line is passed without a copy of the best so far.
+// The chosen candidate for a period: of all levels, the one of smallest start. A closed line is passed without a copy of the best
+// so far.
 pub fn best_candidate(lines: OpenLines<'_>, period: Period) -> Option<Spot>
     ensures { spot_of result ≡ best_of_lines (path_at lines.entry.record.rows.now) period.0 64 }
 {

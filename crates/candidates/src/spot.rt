@@ -13,7 +13,7 @@ pub struct PathNode {
     pub offset: u16,
 }
 
-// A candidate: a node on a line's path, its divisor, and the class that is taken. Its start is below the period asked.
+// A candidate: a node on a line's path, its divisor, and the class that is taken. Its start is at most 4,095.
 #[derive(Clone, Copy)]
 pub struct Spot {
     pub node: PathNode,

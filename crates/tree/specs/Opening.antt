@@ -52,7 +52,8 @@ pub record IsChosen (p : ℕ) (t : Tree) (a : Place) : Type 0 where
 unfoldable pub under : ℕ → ℕ → Place → Place
 under w e a = record { level = suc a.level; offset = e + w * a.offset }
 
--- of the candidates in a tree whose root has step m, the place with the smallest key
+-- Of the candidates in a tree whose root has step m, the place with the smallest key. Under an edge a place is counted from there,
+-- and its key is that of the place counted from the root.
 unfoldable pub best : (Place → ℕ) → ℕ → ℕ → Tree → Option Place
 best key p m nothing = None
 best key p m (line n) = None
@@ -60,7 +61,8 @@ best key p m (node w f) =
     smaller_by key (if candidate p m (node w f) then Some (record { level = 0; offset = 0 }) else None)
     (smallest_by key w (λ e. option_map (under w e) (best (λ a. key (under w e a)) p (m * w) (f e))))
 
--- (Ask 6, 2) The chosen candidate, as the search finds it: of all levels, the one of smallest start.
+-- (Ask 6, 2) The chosen candidate, as the search finds it: of all levels, the one of smallest start. It is the one of `IsChosen`, by
+-- `chosen_is_chosen`.
 unfoldable pub chosen : ℕ → Tree → Option Place
 chosen p t = best (start_at p t) p 1 t
 

@@ -2,7 +2,7 @@
 -- Assumes nothing.
 use Rattle.tree.specs.Record.{path_at}
 use Rattle.candidates.specs.Answers.{spot_of}
-use Rattle.candidates.specs.Searched.{SearchedTo}
+use Rattle.candidates.specs.SearchedTo.{SearchedTo}
 use Rattle.candidates.proofs.best_candidate.Given as goal
 
 abbrev pub invariant-loop-number : goal.invariant-loop-number

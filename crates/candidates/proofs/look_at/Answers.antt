@@ -3,7 +3,7 @@
 use native.Mathlib.Omega.{arith}
 use mathlib.Core.Path.{refl}
 use Rattle.paths.proofs.PathRows.{within_path}
-use Rattle.candidates.proofs.NodeOnPath.{offset_small}
+use Rattle.candidates.proofs.NodeNumbers.{offset_small}
 use Rattle.candidates.proofs.SeenNodes.{seen_no_better, first_through, searched_before, searched_more}
 use Rattle.candidates.proofs.look_at.Goals as goal
 

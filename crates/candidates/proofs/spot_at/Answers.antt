@@ -3,7 +3,7 @@
 use native.Mathlib.Omega.{arith}
 use mathlib.Core.Path.{sym}
 use Rattle.paths.proofs.PathRows.{within_path}
-use Rattle.candidates.proofs.NodeOnPath.{carried, step_positive, offered}
+use Rattle.candidates.proofs.NodeNumbers.{carried, step_positive, offered}
 use Rattle.candidates.proofs.Spots.{start_small}
 use Rattle.candidates.proofs.spot_at.Goals as goal
 

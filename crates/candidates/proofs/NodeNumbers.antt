@@ -1,4 +1,4 @@
--- The node at a level of a line's path in a legal record (`NodeOf`, specs/Searched.antt): its numbers are in range.
+-- The node at a level of a line's path in a legal record (`NodeOf`, specs/SearchedTo.antt): its numbers are in range.
 -- Assumes nothing.
 use Rattle.std.specs.Prelude.{Some, option_map}
 use Prim.Native.Nat.{ℕ, zero, suc, ◌+◌, ◌*◌, ◌/◌, ◌<◌, ◌≤◌}
@@ -20,7 +20,7 @@ use Rattle.paths.proofs.PathNumbers.{Carried, carried_row, carried_below, carrie
 use Rattle.paths.proofs.PathRows.{row_in_path, weight_read}
 use Rattle.paths.proofs.RangeLaws.{alone_or_in_range, row_in_range}
 use Rattle.candidates.specs.declared.spot.PathNode.{PathNode}
-use Rattle.candidates.specs.Searched.{NodeOf}
+use Rattle.candidates.specs.SearchedTo.{NodeOf}
 use Rattle.candidates.proofs.Spots.{offer_past_edge_0}
 
 -- a path has one row, or its weights are at least 2
