@@ -43,7 +43,7 @@ fn gcd(a: u16, b: u16) -> u16 {
 fn present_edges(lines: &[Path], node: Node) -> [u64; 64] {
     let path = &lines[node.line];
     let mut marks = [0; 64];
-    for other in lines {
+    for other in &lines[node.line..] {
         if same_node(path, other, node.level) {
             let taken = usize::from(other[node.level][1]);
             marks[taken / 64] |= 1 << (taken % 64);
