@@ -1,6 +1,7 @@
 /* Two versions of the library, loaded side by side: the time of an owner call and, for comparison, of the check of the
-   record alone. The versions take turns, and the best of the repetitions counts. For an idle round a version from before
-   Ask 4 answers 64, and a later one 64 + the rest. */
+   record alone; then of an open with its close. The versions take turns, and the best of the repetitions counts. For an
+   idle round a version from before Ask 4 answers 64, and a later one 64 + the rest. A version from before Ask 6 opens at
+   another start, so that each opens and closes in a plan that it has made. */
 #define _POSIX_C_SOURCE 200809L
 #include <dlfcn.h>
 #include <stdint.h>
@@ -12,6 +13,7 @@ enum { NUMBERS = 1408, ROUNDS = 100, REPETITIONS = 2000, BEFORE = 0, AFTER = 1, 
 
 typedef struct {
     int64_t (*open)(uint16_t *plan, uint64_t line, uint64_t period);
+    int64_t (*close)(uint16_t *plan, uint64_t line);
     int64_t (*owner)(const uint16_t *plan, uint64_t round);
     int64_t (*is_tree)(const uint16_t *plan);
 } library;
@@ -23,6 +25,16 @@ typedef struct {
     uint16_t plan[NUMBERS];
     uint64_t rounds[ROUNDS];
 } question;
+
+/* Lines that are open while one more is opened and closed, in a plan of each version; `deep` as in bench/src/inputs.rs. */
+typedef struct {
+    const char *name;
+    uint64_t lines;
+    int deep;
+    uint16_t plans[2][NUMBERS];
+} change;
+
+static const uint16_t periods[] = {480, 360, 240, 720, 960, 1440, 600, 1200};
 
 static void fail(const char *what) {
     fprintf(stderr, "%s\n", what);
@@ -40,13 +52,14 @@ static library loaded(const char *path) {
     if (!file) fail(dlerror());
     library version;
     *(void **)&version.open = symbol(file, "gaplinte_open");
+    *(void **)&version.close = symbol(file, "gaplinte_close");
     *(void **)&version.owner = symbol(file, "gaplinte_owner");
     *(void **)&version.is_tree = symbol(file, "gaplinte_is_tree");
     return version;
 }
 
-static void book(const library *version, question *asked, uint64_t line, uint64_t period) {
-    if (version->open(asked->plan, line, period) < 0) fail("a line is not booked");
+static void book(const library *version, uint16_t *plan, uint64_t line, uint64_t period) {
+    if (version->open(plan, line, period) < 0) fail("a line is not booked");
 }
 
 static int is_idle(int64_t answer) {
@@ -55,9 +68,8 @@ static int is_idle(int64_t answer) {
 
 /* As in bench/src/inputs.rs: so many lines, and the first rounds of a kind, OWNED or IDLE. */
 static question of_lines(const library *version, const char *name, int lines, int kind) {
-    static const uint16_t periods[] = {480, 360, 240, 720, 960, 1440, 600, 1200};
     question asked = {.name = name, .owner = -1};
-    for (int line = 0; line < lines; line++) book(version, &asked, line, periods[line % 8]);
+    for (int line = 0; line < lines; line++) book(version, asked.plan, line, periods[line % 8]);
     int count = 0;
     for (uint64_t round = 0; count < ROUNDS; round++)
         if (is_idle(version->owner(asked.plan, round)) == kind) asked.rounds[count++] = round;
@@ -67,7 +79,7 @@ static question of_lines(const library *version, const char *name, int lines, in
 /* Case F, and rounds of the line that has 11 nodes above it: `first` is the number of the first period asked. */
 static question under_11_nodes(const library *version, const char *name, uint64_t first) {
     question asked = {.name = name, .owner = 10};
-    for (uint64_t line = 0; line < 11; line++) book(version, &asked, line, UINT64_C(2) << line);
+    for (uint64_t line = 0; line < 11; line++) book(version, asked.plan, line, UINT64_C(2) << line);
     for (uint64_t at = 0; at < ROUNDS; at++) asked.rounds[at] = 1023 + 2048 * (first + at);
     return asked;
 }
@@ -113,6 +125,47 @@ static void measure(const library versions[2], const question *asked) {
            best[AFTER][1] / best[BEFORE][1], best[BEFORE][0], best[AFTER][0]);
 }
 
+static void make_plans(const library versions[2], change *made) {
+    for (int version = BEFORE; version <= AFTER; version++)
+        for (uint64_t line = 0; line < made->lines; line++) {
+            uint64_t period = made->deep ? (line == 0 ? 2 : line == 1 ? 30 : periods[(line - 2) % 8]) : periods[line % 8];
+            book(&versions[version], made->plans[version], line, period);
+        }
+}
+
+/* Nanoseconds of one open with its close. */
+static double time_of_change(const library *version, uint16_t *plan, uint64_t line) {
+    double begin = now();
+    for (int at = 0; at < ROUNDS; at++) {
+        book(version, plan, line, 480);
+        if (version->close(plan, line) < 0) fail("a line is not closed");
+    }
+    return (now() - begin) / ROUNDS;
+}
+
+static void measure_change(const library versions[2], change *made) {
+    double best[2] = {1e9, 1e9};
+    make_plans(versions, made);
+    for (int repetition = 0; repetition < REPETITIONS; repetition++)
+        for (int version = BEFORE; version <= AFTER; version++) {
+            double time = time_of_change(&versions[version], made->plans[version], made->lines);
+            if (time < best[version]) best[version] = time;
+        }
+    printf("| %s | %.0f | %.0f | %.3f |\n", made->name, best[BEFORE], best[AFTER], best[AFTER] / best[BEFORE]);
+}
+
+static void measure_changes(const library versions[2]) {
+    static change made[] = {
+        {.name = "1 line", .lines = 0},
+        {.name = "16 lines", .lines = 15},
+        {.name = "64 lines", .lines = 63},
+        {.name = "16 lines, deep plan", .lines = 15, .deep = 1},
+        {.name = "64 lines, deep plan", .lines = 63, .deep = 1},
+    };
+    printf("\n| open with close | before, ns | after, ns | after by before |\n|---|---|---|---|\n");
+    for (size_t at = 0; at < sizeof made / sizeof *made; at++) measure_change(versions, &made[at]);
+}
+
 int main(int count, char **words) {
     if (count != 3) fail("two shared libraries: before, after");
     library versions[2] = {loaded(words[1]), loaded(words[2])};
@@ -132,5 +185,6 @@ int main(int count, char **words) {
         compare(versions, &asked[at]);
         measure(versions, &asked[at]);
     }
+    measure_changes(versions);
     return 0;
 }

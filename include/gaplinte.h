@@ -180,7 +180,8 @@ static inline uint32_t gaplinte_sheet_total(const gaplinte_figures *sheet) {
     return total;
 }
 
-/* Opens a line with a period of 1 to 4,095 rounds. The value is its start. Refused with 1, 2, 3 or 5. */
+/* Opens a line with a period of 1 to 4,095 rounds. The value is its start: the smallest that a candidate offers, and 0
+ * in an empty plan. Refused with 1, 2, 3 or 5. */
 GAPLINTE_NODISCARD int64_t gaplinte_open(gaplinte_plan *plan, uint64_t line, uint64_t period);
 
 /* Tries a line with a period: what the open would do is written, and the plan is only read. The value is 0.

@@ -8,25 +8,37 @@ const PERIODS: [u16; 8] = [480, 360, 240, 720, 960, 1440, 600, 1200];
 /// The most orders that a list may have.
 pub const ORDERS: usize = 21_845;
 
-/// A plan of so many lines, whose paths have several rows.
-pub fn plan_of(lines: u64) -> Record {
+/// A plan of the lines 0, 1, 2 .. with these periods.
+fn plan_with(periods: impl Iterator<Item = u64>) -> Record {
     let mut rows = [0; RECORD];
-    for line in 0..lines {
-        let period = u64::from(PERIODS[line as usize % 8]);
+    for (line, period) in (0..).zip(periods) {
         let answer = plain::open(&mut rows, line, period);
         assert!(0 <= answer, "line {line} is booked");
     }
     rows
 }
 
+/// So many of the periods above, in turn.
+fn periods(lines: u64) -> impl Iterator<Item = u64> {
+    let in_turn = PERIODS.into_iter().cycle().map(u64::from);
+    in_turn.take(lines as usize)
+}
+
+/// A plan of so many lines. Two and more stand side by side: the root has weight 120, which is room for all, and below it
+/// each line has a node of its own, so that every path has two rows.
+pub fn plan_of(lines: u64) -> Record {
+    plan_with(periods(lines))
+}
+
+/// A plan of so many lines, two and more, with nodes below nodes: lines of the periods 2 and 30 leave the others one node
+/// of weight 15. With 16 lines it is full and the others' paths have three rows, with 64 lines four to six.
+pub fn deep_plan_of(lines: u64) -> Record {
+    plan_with([2, 30].into_iter().chain(periods(lines - 2)))
+}
+
 /// Case F: the lines 0, 1, 2 .. have the periods 2, 4, 8 .. The last one, of period 2,048, has 11 nodes above it.
 pub fn plan_of_powers() -> Record {
-    let mut rows = [0; RECORD];
-    for line in 0..11 {
-        let answer = plain::open(&mut rows, line, 2 << line);
-        assert!(0 <= answer, "line {line} is booked");
-    }
-    rows
+    plan_with((1..=11).map(|level| 1 << level))
 }
 
 /// Rounds that the last line of case F owns: 1,023 is its start.

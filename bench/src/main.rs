@@ -1,5 +1,5 @@
 //! Compares the proved library and the program `book` with the same in plain Rust: first their answers, then their speed.
-//! Then the trial of the library with its open.
+//! Then the trial of the library with its open, and the search of plain Rust with the same one without its pruning.
 
 use gaplinte::raw;
 
@@ -9,6 +9,7 @@ mod measure;
 mod numbers;
 mod plain;
 mod programs;
+mod pruning;
 mod trials;
 
 const RECORD: usize = 1408;
@@ -52,6 +53,7 @@ fn compare_and_measure() {
     compare::compare_answers(&folder);
     measure::measure(&folder);
     trials::measure_trials();
+    pruning::measure_pruning();
     std::fs::remove_dir_all(&folder).expect("the folder is this program's own");
 }
 
@@ -61,8 +63,9 @@ fn main() {
         None => compare_and_measure(),
         Some("book") => plain::book::run().expect("standard input and output can be used"),
         Some("trials") => trials::measure_trials(),
+        Some("pruning") => pruning::measure_pruning(),
         Some("profile") => measure::profile(words),
         Some("list") => measure::write_list(words),
-        Some(word) => panic!("{word}: none of `book`, `trials`, `profile` and `list`"),
+        Some(word) => panic!("{word}: none of `book`, `trials`, `pruning`, `profile` and `list`"),
     }
 }

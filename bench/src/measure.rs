@@ -1,7 +1,7 @@
 //! The table: nanoseconds of the library and of plain Rust, which take turns, the best of many repetitions for each.
 
 use crate::inputs::{
-    list_of, plan_of, plan_of_powers, rounds_under_11_nodes, rounds_where, ORDERS,
+    deep_plan_of, list_of, plan_of, plan_of_powers, rounds_under_11_nodes, rounds_where, ORDERS,
 };
 use crate::programs::programs;
 use crate::{Calls, Record, LIBRARY, PLAIN, RECORD, SHEET};
@@ -69,11 +69,21 @@ fn open_and_close(calls: Calls, rows: &mut Record, line: u64) {
     black_box((calls.close)(black_box(rows), line));
 }
 
-/// Opens of a line, each with a close of it. The plan has so many lines while that line is open.
-fn changes(calls: Calls, lines: usize) -> Task {
+/// Opens of a line, each with a close of it, in the plan that is made with so many lines.
+fn changes_in(calls: Calls, plan: fn(u64) -> Record, lines: usize) -> Task {
     let line = lines as u64 - 1;
-    let mut rows = plan_of(line);
+    let mut rows = plan(line);
     Box::new(move || (0..TOGETHER).for_each(|_| open_and_close(calls, &mut rows, line)))
+}
+
+/// The plan has so many lines while that line is open.
+fn changes(calls: Calls, lines: usize) -> Task {
+    changes_in(calls, plan_of, lines)
+}
+
+/// The same in a plan with nodes below nodes, whose lines but one take one edge of the root.
+fn changes_deep(calls: Calls, lines: usize) -> Task {
+    changes_in(calls, deep_plan_of, lines)
 }
 
 /// One list on an empty plan.
@@ -98,7 +108,7 @@ struct Measured {
     task: fn(Calls, usize) -> Task,
 }
 
-const MEASURED: [Measured; 6] = [
+const MEASURED: [Measured; 7] = [
     Measured {
         name: "owner, owned round",
         lines: &LINES,
@@ -133,6 +143,13 @@ const MEASURED: [Measured; 6] = [
         calls: TOGETHER,
         repetitions: 300,
         task: changes,
+    },
+    Measured {
+        name: "open with close, deep plan",
+        lines: &[16, 64],
+        calls: TOGETHER,
+        repetitions: 300,
+        task: changes_deep,
     },
     Measured {
         name: "list, each order",
@@ -188,7 +205,7 @@ pub fn profile(mut words: impl Iterator<Item = String>) {
     };
     let mut number = || words.next().and_then(|word| word.parse().ok());
     let row: usize = number().expect(
-        "a row: 0 owned round, 1 idle round, 2 owner under 11 nodes, 3 sheet, 4 open with close, 5 list",
+        "a row: 0 owned round, 1 idle round, 2 owner under 11 nodes, 3 sheet, 4 open with close, 5 the same in a deep plan, 6 list",
     );
     let lines: usize = number().expect("a number of lines");
     let times: usize = number().expect("a number of tasks");

@@ -4,8 +4,8 @@ pub mod book;
 mod change;
 mod list;
 mod owner;
-mod paths;
-mod search;
+pub mod paths;
+pub mod search;
 mod sheet;
 
 use crate::Record;

@@ -379,6 +379,25 @@ static void sheet_of_a_full_plan(void) {
     EXPECT_SHEET(0, 384, expected);
 }
 
+/* The root gets weight 4, and each 8 a node of weight 2 below it. When line 4 is opened the root is full, and the nodes
+ * offer 5, 6 and 7. Then the root offers 3, and the nodes above lines 4 and 2 offer 1 and 6. */
+static void earliest_start(void) {
+    memset(&plan, 0, sizeof plan);
+    EXPECT(gaplinte_open(&plan, 0, 4), 0);
+    EXPECT(gaplinte_open(&plan, 1, 8), 1);
+    EXPECT(gaplinte_open(&plan, 2, 8), 2);
+    EXPECT(gaplinte_open(&plan, 3, 8), 3);
+    EXPECT(gaplinte_open(&plan, 4, 8), 5);
+    EXPECT(gaplinte_close(&plan, 1), 0);
+    EXPECT(gaplinte_close(&plan, 3), 0);
+    EXPECT_TRIED(5, 8, 1, 0, 0);
+    EXPECT(gaplinte_open(&plan, 5, 8), 1);
+    EXPECT_TRIED(6, 8, 3, 1, 0);
+    EXPECT(gaplinte_open(&plan, 6, 8), 3);
+    EXPECT_TRIED(7, 8, 6, 0, 0);
+    EXPECT(gaplinte_open(&plan, 7, 8), 6);
+}
+
 /* Marked case I. */
 static void list(void) {
     const uint8_t orders[] = {0x01, 0x00, 0x60, 0x02, 0x00, 0x20, 0x03, 0x00, 0x30,
@@ -527,6 +546,7 @@ int main(void) {
     largest_total();
     trials_in_a_full_plan();
     sheet_of_a_full_plan();
+    earliest_start();
     list();
     order();
     narrowed();

@@ -257,7 +257,7 @@ class Plan:
         return f"<Plan {self.lines()}>"
 
     def open(self, line: int, period: int) -> int:
-        """Opens a line and gives its start. Refused with 1, 2, 3 or 5."""
+        """Opens a line and gives its start: the smallest that a candidate offers, and 0 in an empty plan. Refused with 1, 2, 3 or 5."""
         return _value(_library.gaplinte_open(self._record, _number(line), _number(period)))
 
     def trial(self, line: int, period: int) -> Trial:

@@ -59,9 +59,15 @@ class MarkedCases(Case):
         self.assertEqual(plan.lines(), [(1, 4, 0), (2, 6, 1), (3, 8, 2), (5, 12, 3)])
         self.assertEqual(plan.lines()[3], OpenLine(line=5, period=12, start=3))
 
+    def used(self, plan, line):
+        """The rows of a line's path that are used."""
+        return tuple(row for row in plan.show(line).path if row.weight)
+
     def test_b_to_h(self):
         self.opened("4@0", "4@1", "2!5")
-        self.opened("6@0", "12@1", "12@7")
+        plan = self.opened("6@0", "12@1", "12@2")
+        paths = [((6, 0),), ((6, 1), (2, 0)), ((6, 2), (2, 0))]
+        self.assertEqual([self.used(plan, line) for line in (1, 2, 3)], paths)
         self.opened("1@0", "1!5", "4095!5")
         self.opened("2@0", "3!5")
         powers = [f"{2**power}@{2**(power - 1) - 1}" for power in range(1, 12)]
@@ -77,6 +83,18 @@ class MarkedCases(Case):
         answers = [(0, 0), (0, 1), (5, None), (0, None), (5, None), (4, None)]
         self.assertEqual(plan.run_list(orders), answers)
         self.assertEqual(plan.lines(), [(1, 6, 0)])
+
+    def test_earliest_start(self):
+        plan = Plan()
+        self.assertEqual(plan.open(0, 4), 0)
+        # The root has weight 4, and above each 8 stands a node of weight 2. For line 4 the root is full, and the nodes
+        # offer 5, 6 and 7. For line 5 the root offers 3, and the nodes above lines 4 and 2 offer 1 and 6.
+        self.assertEqual([plan.open(line, 8) for line in (1, 2, 3, 4)], [1, 2, 3, 5])
+        plan.close(1)
+        plan.close(3)
+        self.assertEqual([plan.open(line, 8) for line in (5, 6, 7)], [1, 3, 6])
+        lines = [(0, 4, 0), (2, 8, 2), (4, 8, 5), (5, 8, 1), (6, 8, 3), (7, 8, 6)]
+        self.assertEqual(plan.lines(), lines)
 
     def test_an_emptied_plan_is_the_fresh_one(self):
         plan = self.opened("4@0", "6@1", "8@2")
@@ -255,6 +273,17 @@ class Trials(Case):
         told = plan.trial(5, 16)
         self.assertEqual(told, Trial(start=6, added=1, split=False))
 
+    def test_earliest_start(self):
+        plan = Plan()
+        for line, period in ((0, 4), (1, 8), (2, 8), (3, 8), (4, 8)):
+            plan.open(line, period)
+        plan.close(1)
+        plan.close(3)
+        # In the node above line 4, under the root, and in the node above line 2.
+        for line, told in ((5, (1, 0, False)), (6, (3, 1, False)), (7, (6, 0, False))):
+            self.assertEqual(self.tried(plan, line, 8), told)
+            plan.open(line, 8)
+
     def test_one_line(self):
         plan = self.opened("4@0")
         # The root of weight 4 becomes one of weight 2 for the 2 and the 6, with a node of weight 2 above the 4.
@@ -351,7 +380,7 @@ class Rests(Case):
         self.assertEqual([plan.owner(round).rest for round in (8, 9, 10, 11, 12)], [None, 3, 2, 1, None])
 
     def test_until_the_next_owned_round(self):
-        for periods in (("4@0",), ("6@0", "12@1", "12@7"), ("5@0", "35@1"), ("2@0", "1024@1")):
+        for periods in (("4@0",), ("6@0", "12@1", "12@2"), ("5@0", "35@1"), ("2@0", "1024@1")):
             plan = self.opened(*periods)
             owners = [plan.owner(round) for round in range(5000)]
             owned = [round for round, owner in enumerate(owners) if owner.rest is None]

@@ -205,7 +205,7 @@ mod tests {
     #[test]
     fn trials_tell_starts_and_nodes() {
         assert_printed(CASE_A, &["0 2 5 - - -", "0 4 5 - - -", "0 4095 5 - - -"]);
-        assert_printed(CASE_A, &["0 6 0 5 0 whole", "63 12 0 9 0 whole"]);
+        assert_printed(CASE_A, &["0 6 0 5 0 whole", "63 12 0 5 1 whole"]);
         assert_printed(CASE_F, &["0 1024 0 1023 1 split", "0 2048 0 2047 0 whole"]);
         assert_printed(CASE_F, &["0 2 5 - - -", "0 4094 5 - - -"]);
         assert_printed(EVERY_ROUND, &["0 1 5 - - -", "0 4095 5 - - -"]);

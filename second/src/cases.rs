@@ -1,4 +1,5 @@
-//! The marked cases A to I of document 01, and the mistakes that they catch.
+//! The marked cases A to I of document 01, case C as in document 02, Ask 6, and the mistakes
+//! that they and cases of our own catch.
 
 use crate::ask::{owner, show, turns, Owner, Row};
 use crate::book;
@@ -99,11 +100,12 @@ fn case_b() {
     refused(&mut plan, 2, 2, NoCandidate);
 }
 
+/// For line 2 the root offers 2, and the node above line 1 offers 7 (Ask 6, 4).
 #[test]
 fn case_c() {
-    let plan = opened(&[(6, 0), (12, 1), (12, 7)]);
-    let tree = node(6, [(0, L(0)), (1, under(2, [(0, L(1)), (1, L(2))]))]);
-    assert_eq!(plan, plan_of(tree));
+    let plan = opened(&[(6, 0), (12, 1), (12, 2)]);
+    let (one, two) = (under(2, [(0, L(1))]), under(2, [(0, L(2))]));
+    assert_eq!(plan, plan_of(node(6, [(0, L(0)), (1, one), (2, two)])));
 }
 
 #[test]
@@ -308,24 +310,101 @@ fn split_keeps_edges_of_one_class_together() {
     assert_eq!(plan, plan_of(node(2, [(0, even), (1, L(3))])));
 }
 
-/// Within a level, offsets are compared and not edge paths (Opening a line, 4).
+/// A case of our own: deeper nodes alone, one of them before the root, the root before one, and
+/// a deeper node alone (Ask 6, 2).
 #[test]
-fn smallest_offset_among_one_level() {
-    let a = under(2, [(1, under(2, [(0, L(0))]))]);
-    let b = under(2, [(0, under(2, [(0, L(1))]))]);
-    let mut plan = plan_of(node(2, [(0, a), (1, b)]));
-    assert_eq!(period_and_start(&plan, 0), (8, 2));
-    assert_eq!(period_and_start(&plan, 1), (8, 1));
-    assert_eq!(plan.open(2, 8), Ok(Start(5)));
-    assert_eq!(plan.open(3, 8), Ok(Start(6)));
+fn earliest_start() {
+    let mut plan = opened(&[(4, 0), (8, 1), (8, 2), (8, 3), (8, 5)]);
+    plan.close(1).unwrap();
+    plan.close(3).unwrap();
+    for (line, start) in [(5, 1), (6, 3), (7, 6)] {
+        assert_eq!(plan.open(line, 8), Ok(Start(start)), "{line}");
+    }
+    let times: Vec<_> = [0, 2, 4, 5, 6, 7]
+        .map(|line| period_and_start(&plan, line))
+        .into();
+    assert_eq!(times, [(4, 0), (8, 2), (8, 5), (8, 1), (8, 3), (8, 6)]);
 }
 
+/// The trees of that case, each derived by hand.
 #[test]
-fn largest_level_before_smallest_offset() {
-    let deep = under(2, [(0, L(0))]);
-    let mut plan = plan_of(node(4, [(3, deep)]));
-    assert_eq!(plan.open(1, 8), Ok(Start(7)));
-    assert_eq!(plan.open(2, 8), Ok(Start(0)));
+fn earliest_start_trees() {
+    let mut plan = opened(&[(4, 0), (8, 1), (8, 2), (8, 3), (8, 5)]);
+    let (two, three) = (under(2, [(0, L(2))]), under(2, [(0, L(3))]));
+    let one = under(2, [(0, L(1)), (1, L(4))]);
+    let tree = node(4, [(0, L(0)), (1, one), (2, two.clone()), (3, three)]);
+    assert_eq!(plan, plan_of(tree));
+    plan.close(1).unwrap();
+    plan.close(3).unwrap();
+    let one = under(2, [(1, L(4))]);
+    let tree = node(4, [(0, L(0)), (1, one), (2, two.clone())]);
+    assert_eq!(plan, plan_of(tree));
+    plan.open(5, 8).unwrap();
+    let one = under(2, [(0, L(5)), (1, L(4))]);
+    let tree = node(4, [(0, L(0)), (1, one.clone()), (2, two.clone())]);
+    assert_eq!(plan, plan_of(tree));
+    plan.open(6, 8).unwrap();
+    let three = under(2, [(0, L(6))]);
+    let tree = node(
+        4,
+        [(0, L(0)), (1, one.clone()), (2, two), (3, three.clone())],
+    );
+    assert_eq!(plan, plan_of(tree));
+    plan.open(7, 8).unwrap();
+    let two = under(2, [(0, L(2)), (1, L(7))]);
+    let tree = node(4, [(0, L(0)), (1, one), (2, two), (3, three)]);
+    assert_eq!(plan, plan_of(tree));
+}
+
+/// Opens the period as lines 9, 10, 11 .. at these starts, and then no more.
+fn filled(mut plan: Plan, period: u64, starts: &[u16]) {
+    for (line, &start) in (9..).zip(starts) {
+        assert_eq!(plan.open(line, period), Ok(Start(start)), "{line}");
+    }
+    refused(&mut plan, 63, period, NoCandidate);
+}
+
+/// Mistake: the node of the largest level first. The lower node here offers 7 from the first
+/// open on, and those that the opens add offer 4, 5 and 6.
+#[test]
+fn the_root_before_a_lower_node() {
+    let lower = under(2, [(0, L(0))]);
+    let plan = plan_of(node(4, [(3, lower)]));
+    assert_eq!(period_and_start(&plan, 0), (8, 3));
+    filled(plan, 8, &[0, 1, 2, 4, 5, 6, 7]);
+}
+
+/// Mistake: the root first. It offers 1 at first, the node under it 0, and the node under that
+/// one 6.
+#[test]
+fn a_node_between_before_root_and_last() {
+    let last = under(2, [(0, L(0))]);
+    let plan = plan_of(node(2, [(0, under(2, [(1, last)]))]));
+    assert_eq!(period_and_start(&plan, 0), (8, 2));
+    filled(plan, 8, &[0, 1, 3, 4, 5, 6, 7]);
+}
+
+/// Mistake: the smallest offset without the class. Of the two nodes under the root the one of
+/// offset 0 offers 4, 4, 6 and 6 where the one of offset 1 offers 3, 5, 5 and 7.
+#[test]
+fn classes_count_among_nodes_of_one_level() {
+    let (even, odd) = (under(4, [(0, L(0)), (1, L(1))]), under(4, [(0, L(2))]));
+    let plan = plan_of(node(2, [(0, even), (1, odd)]));
+    let times = [0, 1, 2].map(|line| period_and_start(&plan, line));
+    assert_eq!(times, [(8, 0), (8, 2), (8, 1)]);
+    filled(plan, 8, &[3, 4, 5, 6, 7]);
+}
+
+/// Mistake: paths of edges compared, and not starts. After 0 and 3 the four last nodes offer 4,
+/// 6, 5 and 7 in the sequence of their paths.
+#[test]
+fn starts_are_compared_and_not_paths() {
+    let even = under(2, [(1, under(2, [(0, L(0))]))]);
+    let odd = under(2, [(0, under(2, [(0, L(1))]))]);
+    let plan = plan_of(node(2, [(0, even), (1, odd)]));
+    let times = [0, 1].map(|line| period_and_start(&plan, line));
+    assert_eq!(times, [(8, 2), (8, 1)]);
+    filled(plan, 8, &[0, 3, 4, 5, 6, 7]);
 }
 
 /// No empty node may remain after the last close (Marked cases, mistakes).

@@ -1,6 +1,6 @@
-//! A second implementation of document 01 and, of document 02, Ask 1, Ask 3, Ask 4 and Ask 5,
-//! written from these documents alone. It writes the outputs that the proved program is tested
-//! against.
+//! A second implementation of document 01 and, of document 02, Ask 1, Ask 3, Ask 4, Ask 5 and
+//! Ask 6, written from these documents alone. It writes the outputs that the proved program is
+//! tested against.
 //!
 //! Comments cite document 01 as (section, sentence), counted within the section; the one
 //! word before the items of Opening a line is not counted. (Refusals, 3) is refusal 3 of
@@ -40,3 +40,5 @@ mod cases;
 mod ledger;
 #[cfg(test)]
 mod naive;
+#[cfg(test)]
+mod offers;

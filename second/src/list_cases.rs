@@ -1,5 +1,5 @@
 //! `second list-script cases`: lists and lent bytes of every shape, damaged records, every
-//! refusal that a list can give, malformed orders, marked cases, and the longest list, as a
+//! refusal that a list can give, malformed orders, the named cases, and the longest list, as a
 //! script (`list_script.rs`).
 
 use crate::list_script::{owners, Step, MOST_ROOM};
@@ -19,7 +19,7 @@ pub fn cases() -> Vec<Step> {
         damaged_records(),
         refusals(),
         malformed_orders(),
-        marked_cases(),
+        named_cases(),
         longest_list(),
     ]
     .concat()
@@ -218,15 +218,15 @@ fn malformed_orders() -> Vec<Step> {
     steps
 }
 
-/// (Marked cases, A to I), as far as orders can hold them.
-fn marked_cases() -> Vec<Step> {
+/// (Marked cases, A to I) and `earliest_start`, as far as orders can hold them.
+fn named_cases() -> Vec<Step> {
     let order = |call: &script::Step| match *call {
         script::Step::Open(line, period) => pack(0, line, period).ok(),
         script::Step::Close(line) => pack(1, line, 0).ok(),
         _ => None,
     };
     let mut steps = Vec::new();
-    for case in script::marked_cases() {
+    for case in script::named_cases() {
         let orders: Vec<OrderBytes> = case.iter().filter_map(order).collect();
         steps.push(Step::Begin);
         steps.extend(run_all(&orders, 2));
@@ -268,10 +268,23 @@ mod tests {
     /// (Marked cases, I), and the owners after it, when 6@0 alone is open.
     #[test]
     fn case_i_prints_its_answers() {
-        let text = printed(&marked_cases());
+        let text = printed(&named_cases());
         let expected = "plan\nlist 18 14 0\n0000 0001 5000 0000 5000 4000\nbeyond 2 ee ee\n\
             owner 0 1\nowner 1 idle 5\n";
         assert!(text.contains(expected), "{text}");
+    }
+
+    /// Case C and `earliest_start`, and the owners after that: 4@0, 8@1, 8@2, 8@3, 8@5 and 8@6.
+    #[test]
+    fn earliest_starts_are_answered() {
+        let text = printed(&named_cases());
+        let case_c = "plan\nlist 9 8 0\n0000 0001 0002\nbeyond 2 ee ee\n";
+        assert!(text.contains(case_c), "{text}");
+        let earliest_start = "plan\nlist 30 22 0\n\
+            0000 0001 0002 0003 0005 0000 0000 0001 0003 0006\nbeyond 2 ee ee\n\
+            owner 0 0\nowner 1 5\nowner 7 idle 1\nowner 9 5\nowner 10 2\n\
+            owner 4294967296 0\nowner 18446744073709551615 idle 1\n";
+        assert!(text.ends_with(earliest_start), "{text}");
     }
 
     /// 7 comes before 8, and a refused list changes neither the plan nor a lent byte.

@@ -110,13 +110,20 @@ mod tests {
         assert_eq!(most, Some(64));
     }
 
+    /// Nodes above the line that has the most.
+    fn most_nodes(plan: &Plan) -> usize {
+        let shown = (0..64).filter_map(|line| show(plan, line).ok());
+        let nodes = shown.map(|shown| shown.path.iter().filter(|row| row.weight > 0).count());
+        nodes.max().unwrap_or(0)
+    }
+
+    /// One list in 20 leaves a line under 11 nodes, and one in four a line under 9 or more.
     #[test]
     fn deep_lists_reach_11_nodes() {
-        let paths = plans(Shape::Deep, 200).into_iter().flat_map(|plan| {
-            (0..64).filter_map(move |line| show(&plan, line).ok().map(|shown| shown.path))
-        });
-        let nodes = paths.map(|path| path.iter().filter(|row| row.weight > 0).count());
-        assert_eq!(nodes.max(), Some(11));
+        let most: Vec<usize> = plans(Shape::Deep, 200).iter().map(most_nodes).collect();
+        let reach = |nodes: usize| most.iter().filter(|&&count| count >= nodes).count();
+        assert!(reach(11) >= 10 && reach(9) >= 50, "{most:?}");
+        assert_eq!(reach(12), 0);
     }
 
     #[test]

@@ -1,5 +1,5 @@
-//! A second reading of the candidate rule, over a flat list of the nodes, of the form of the
-//! tree, and of owner and sheet, by periods and starts. Only for tests.
+//! A second reading of the candidate rule and of the earliest start, over a flat list of the
+//! nodes, of the form of the tree, and of owner and sheet, by periods and starts. Only for tests.
 
 use crate::ask::{show, Owner};
 use crate::sheet::{Sheet, LINES};
@@ -10,6 +10,13 @@ use std::collections::BTreeMap;
 pub(crate) struct Placed<'a> {
     node: &'a Node,
     position: Position,
+}
+
+impl Placed<'_> {
+    /// (The tree, 8).
+    fn level(&self) -> usize {
+        self.position.edges_above.len()
+    }
 }
 
 /// All nodes of the plan.
@@ -39,7 +46,7 @@ pub(crate) fn nodes(plan: &Plan) -> Vec<Placed<'_>> {
 pub(crate) fn weights(plan: &Plan) -> BTreeMap<(usize, u16), u16> {
     let placed = nodes(plan).into_iter();
     placed
-        .map(|Placed { node, position }| ((position.level(), position.offset), node.weight))
+        .map(|it| ((it.level(), it.position.offset), it.node.weight))
         .collect()
 }
 
@@ -52,28 +59,24 @@ fn free_classes(node: &Node, d: u16) -> Vec<u16> {
     (0..d).filter(|&class| free[usize::from(class)]).collect()
 }
 
-/// The start that an open on a plan with a root must answer (Opening a line, 4, 5 and 8);
-/// None for refusal 5.
-pub(crate) fn expected_start(plan: &Plan, period: u16) -> Option<u16> {
-    let mut best: Option<(usize, u16, u16)> = None;
+/// The starts that the candidates offer, each that of its smallest free class (Opening a line,
+/// 2, 5 and 8), in no sequence.
+pub(crate) fn offered_starts(plan: &Plan, period: u16) -> Vec<u16> {
+    let mut starts = Vec::new();
     for Placed { node, position } in nodes(plan) {
-        let (level, step, offset) = (position.level(), position.step, position.offset);
+        let (step, offset) = (position.step, position.offset);
         if !period.is_multiple_of(step) {
             continue;
         }
         let classes = free_classes(node, gcd(node.weight, period / step));
-        let Some(class) = classes.first() else {
-            continue;
-        };
-        let start = offset + class * step;
-        let better = best.is_none_or(|(best_level, best_offset, _)| {
-            level > best_level || level == best_level && offset < best_offset
-        });
-        if better {
-            best = Some((level, offset, start));
-        }
+        starts.extend(classes.first().map(|class| offset + class * step));
     }
-    best.map(|(_, _, start)| start)
+    starts
+}
+
+/// The start that an open on a plan with a root must answer (Ask 6, 2); None for refusal 5.
+pub(crate) fn expected_start(plan: &Plan, period: u16) -> Option<u16> {
+    offered_starts(plan, period).into_iter().min()
 }
 
 /// An open line with its period and start.
@@ -163,7 +166,7 @@ fn is_node(placed: &Placed, nodes: usize) -> bool {
     let weight_1 = node.weight == 1 && nodes == 1 && lines_of(node).len() == 1;
     (node.weight >= 2 || weight_1)
         && span <= 4_095
-        && position.level() < 11
+        && placed.level() < 11
         && !node.edges.is_empty()
         && node.edges.keys().all(|&edge| edge < node.weight)
 }

@@ -106,12 +106,12 @@ impl Step {
     }
 }
 
-/// The marked cases, then walks at the borders of a place's numbers, turns at those of a first
+/// The named cases, then walks at the borders of a place's numbers, turns at those of a first
 /// round, owners and rests at those of a round, trials at those of a line and a period, and
 /// sheets at those of a first round and a number of rounds.
 pub fn cases() -> Vec<Step> {
-    let marked = marked_cases().into_iter();
-    let begun = marked.flat_map(|case| [vec![Step::Begin], case].concat());
+    let named = named_cases().into_iter();
+    let begun = named.flat_map(|case| [vec![Step::Begin], case].concat());
     let borders = [
         border_walks(),
         border_turns(),
@@ -139,9 +139,14 @@ pub(crate) fn opened_in_turn(periods: &[u64]) -> (Vec<Step>, Held) {
     (steps, held)
 }
 
+/// The marked cases, and after them `earliest_start`.
+pub(crate) fn named_cases() -> Vec<Vec<Step>> {
+    [marked_cases(), vec![earliest_start()]].concat()
+}
+
 /// (Marked cases, A to I), the calls of each that change a plan; the lines are numbered
 /// from 1 where the case names none.
-pub(crate) fn marked_cases() -> Vec<Vec<Step>> {
+fn marked_cases() -> Vec<Vec<Step>> {
     let powers: Vec<u64> = (1..=11).map(|power| 1 << power).collect();
     vec![
         opens_in_turn(&[4, 6, 8, 2, 12]),
@@ -157,6 +162,24 @@ pub(crate) fn marked_cases() -> Vec<Vec<Step>> {
             vec![Step::Close(2), Step::Open(3, 3), Step::Close(2)],
         ]
         .concat(),
+    ]
+}
+
+/// A case of our own (Ask 6, 2): starts offered by deeper nodes alone, by a deeper node before
+/// the root, by the root before a deeper node, and by a deeper node alone.
+fn earliest_start() -> Vec<Step> {
+    use Step::{Close, Open};
+    vec![
+        Open(0, 4),
+        Open(1, 8),
+        Open(2, 8),
+        Open(3, 8),
+        Open(4, 8),
+        Close(1),
+        Close(3),
+        Open(5, 8),
+        Open(6, 8),
+        Open(7, 8),
     ]
 }
 
@@ -511,9 +534,21 @@ pub(crate) mod tests {
         let marked: usize = marked_cases().iter().map(|case| case.len() + 1).sum();
         let lines: Vec<&str> = text.lines().take(marked).collect();
         assert_eq!(lines[5], "open 5 12 0 3");
+        let case_c = ["open 1 6 0 0", "open 2 12 0 1", "open 3 12 0 2"];
+        assert_eq!(lines[11..14], case_c);
         assert!(lines.contains(&"open 11 2048 0 1023"));
         assert!(lines.contains(&"open 64 1 1 -"));
         assert_eq!(lines.last(), Some(&"close 2 4"));
+    }
+
+    /// Right after the marked cases.
+    #[test]
+    fn earliest_start_prints_its_answers() {
+        let text = answers(&cases());
+        let expected = "close 2 4\nplan\n\
+            open 0 4 0 0\nopen 1 8 0 1\nopen 2 8 0 2\nopen 3 8 0 3\nopen 4 8 0 5\n\
+            close 1 0\nclose 3 0\nopen 5 8 0 1\nopen 6 8 0 3\nopen 7 8 0 6\nplan\n";
+        assert!(text.contains(expected));
     }
 
     #[test]

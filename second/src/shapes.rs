@@ -23,7 +23,8 @@ pub struct Stock {
     pub orders: u64,
     pub lines: Vec<u64>,
     pub periods: Vec<u64>,
-    /// Periods are mostly taken one after the other, not at random.
+    /// Periods are mostly taken one after the other, not at random; the first time over, all
+    /// lines and periods are.
     pub periods_in_turn: bool,
     /// Opens in a hundred orders.
     pub opens: u64,
@@ -128,7 +129,7 @@ fn deep(random: &mut Random) -> Stock {
     match random.below(4) {
         0 => periods.reverse(),
         1 => shuffle(random, &mut periods),
-        _ => {}
+        _ => periods = [full_but_one_edge(factor), periods].concat(),
     }
     Stock {
         orders,
@@ -138,6 +139,13 @@ fn deep(random: &mut Random) -> Stock {
         opens: 72,
         closes: 18,
     }
+}
+
+/// So many opens of the factor that with the one that follows a root of this weight has one edge
+/// left. Each power then finds one free edge only, in the last node, and adds a node there; with
+/// more edges free it would take an earlier start beside that node.
+fn full_but_one_edge(factor: u64) -> Vec<u64> {
+    vec![factor; factor.saturating_sub(2) as usize]
 }
 
 fn shuffle(random: &mut Random, items: &mut [u64]) {
@@ -204,9 +212,11 @@ impl Drawing {
         pack(1, line, 0).expect("the stock is within the fields")
     }
 
-    /// Period 0, set filler bits, kind 2, kind 3 or a close with a period.
+    /// Period 0, set filler bits, kind 2, kind 3 or a close with a period. It takes no turn.
     fn faulty(&mut self, random: &mut Random) -> [u8; ORDER_BYTES] {
+        let turns = (self.next_line, self.next_period);
         let [first, second, third] = self.open(random);
+        (self.next_line, self.next_period) = turns;
         let filler = 1 + random.below(15) as u8;
         match random.below(6) {
             0 => [first, 0, 0],
@@ -218,9 +228,14 @@ impl Drawing {
         }
     }
 
+    /// Periods are taken in turn, and for the first time.
+    fn is_first_time(&self) -> bool {
+        self.stock.periods_in_turn && self.next_period < self.stock.periods.len()
+    }
+
     /// Three times in four the next line in turn, else any.
     fn line(&mut self, random: &mut Random) -> u64 {
-        if random.below(4) == 0 {
+        if random.below(4) == 0 && !self.is_first_time() {
             return random.pick(&self.stock.lines);
         }
         let at = self.next_line % self.stock.lines.len();
@@ -230,7 +245,8 @@ impl Drawing {
 
     /// In turn seven times in eight, if the stock says so, else any.
     fn period(&mut self, random: &mut Random) -> u64 {
-        if !self.stock.periods_in_turn || random.below(8) == 0 {
+        let any = !self.stock.periods_in_turn || random.below(8) == 0;
+        if any && !self.is_first_time() {
             return random.pick(&self.stock.periods);
         }
         let at = self.next_period % self.stock.periods.len();
@@ -242,6 +258,10 @@ impl Drawing {
 #[cfg(test)]
 mod tests {
     use super::*;
+    use crate::ask::show;
+    use crate::orders::{read, Order};
+    use crate::tree::Plan;
+    use std::collections::BTreeSet;
 
     /// Prime factors, each as often as it divides.
     fn prime_factors(number: u64) -> usize {
@@ -259,6 +279,51 @@ mod tests {
                 assert!((1..=2).contains(&prime_factors(period)), "{period}");
             }
         }
+    }
+
+    /// Some orders are faulty and some close lines; these take no turn.
+    #[test]
+    fn the_first_opens_of_deep_lists_are_in_turn() {
+        let mut random = Random::new(7);
+        for _ in 0..100 {
+            let stock = Shape::Deep.stock(&mut random);
+            let turns = stock.lines.iter().copied().zip(stock.periods.clone());
+            let turns: Vec<(u64, u64)> = turns.collect();
+            let mut drawing = Drawing::new(stock);
+            let mut opens = Vec::new();
+            while opens.len() < turns.len() {
+                match read(drawing.order(&mut random)) {
+                    Ok(Order::Open { line, period }) if period > 0 => {
+                        opens.push((line.into(), period.into()));
+                    }
+                    _ => {}
+                }
+            }
+            assert_eq!(opens, turns);
+        }
+    }
+
+    /// With rising periods, and without a close between them: the factors 1 and 3 have 11 of
+    /// them, 5 and 7 have 10, and 9 has 9.
+    #[test]
+    fn rising_periods_of_deep_lists_add_a_node_each() {
+        let mut random = Random::new(8);
+        let mut most = BTreeSet::new();
+        for _ in 0..200 {
+            let periods = Shape::Deep.stock(&mut random).periods;
+            if !periods.is_sorted() {
+                continue;
+            }
+            let mut plan = Plan::empty();
+            for (line, &period) in (0..).zip(&periods) {
+                plan.open(line, period).unwrap();
+            }
+            let path = show(&plan, periods.len() as u64 - 1).unwrap().path;
+            let nodes = path.iter().filter(|row| row.weight > 0).count();
+            assert_eq!(nodes, BTreeSet::from_iter(&periods).len(), "{periods:?}");
+            most.insert(nodes);
+        }
+        assert_eq!(most, BTreeSet::from([9, 10, 11]));
     }
 
     #[test]

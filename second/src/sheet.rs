@@ -169,7 +169,8 @@ pub(crate) mod tests {
         }
     }
 
-    /// One line that has every round, and 1/3, 1/6, 1/6 and three times 1/9 of them.
+    /// One line that has every round, and 1/3, twice 1/6 and three times 1/9 of them: 3@0, 6@1,
+    /// 9@2, 6@4, 9@5 and 9@8.
     #[test]
     fn a_plan_may_have_no_idle_round() {
         for first in FIRSTS {
@@ -179,12 +180,12 @@ pub(crate) mod tests {
             let turns = [
                 (1, three),
                 (2, six),
-                (3, six),
-                (4, nine),
+                (3, nine),
+                (4, six),
                 (5, nine),
                 (6, nine),
             ];
-            let shared = sheet(&opened(&[3, 6, 6, 9, 9, 9]), first, 65_502);
+            let shared = sheet(&opened(&[3, 6, 9, 6, 9, 9]), first, 65_502);
             assert_eq!(shared, sheet_of(&turns, 0), "{first}");
         }
     }

@@ -1,7 +1,7 @@
-//! Document 01, sections The tree, Opening a line and Closing a line.
+//! Document 01, sections The tree, Opening a line and Closing a line; document 02, Ask 6: which
+//! candidate an open takes.
 
 use crate::refusal::Refusal;
-use std::cmp::Reverse;
 use std::collections::BTreeMap;
 
 /// Largest line number (The tree, 2).
@@ -14,7 +14,7 @@ pub const LAST_PERIOD: u64 = 4_095;
 pub struct Period(pub u16);
 
 /// See `Period`.
-#[derive(Clone, Copy, Debug, PartialEq, Eq)]
+#[derive(Clone, Copy, Debug, PartialEq, Eq, PartialOrd, Ord)]
 pub struct Start(pub u16);
 
 /// What an edge leads to (The tree, 5).
@@ -37,7 +37,7 @@ pub struct Plan {
     pub(crate) root: Option<Node>,
 }
 
-/// Where a node stands: the edges from the root to it (as many as its level),
+/// Where a node stands: the edges from the root to it, one for each proper ancestor,
 /// its step m (The tree, 6) and its offset r (The tree, 11).
 #[derive(Clone, Debug)]
 pub(crate) struct Position {
@@ -55,6 +55,11 @@ pub(crate) struct Candidate {
 }
 
 impl Candidate {
+    /// The start that it offers, r + i·m (Opening a line, 8).
+    pub(crate) fn start(&self) -> Start {
+        Start(self.position.offset + self.class * self.position.step)
+    }
+
     /// Whether the open splits this node (Opening a line, 6).
     pub(crate) fn is_split(&self) -> bool {
         self.d < self.weight
@@ -105,11 +110,6 @@ impl Position {
             offset: self.offset + edge * self.step,
         }
     }
-
-    /// (The tree, 8).
-    pub(crate) fn level(&self) -> usize {
-        self.edges_above.len()
-    }
 }
 
 impl Node {
@@ -149,22 +149,26 @@ impl Node {
     }
 
     /// This node and every node below it, where they are candidates.
-    fn candidates(&self, position: &Position, period: u16, found: &mut Vec<Candidate>) {
+    fn add_candidates(&self, position: &Position, period: u16, found: &mut Vec<Candidate>) {
         found.extend(self.candidate(position, period));
         for (&edge, under) in &self.edges {
             if let Under::Node(node) = under {
-                node.candidates(&position.under(self.weight, edge), period, found);
+                node.add_candidates(&position.under(self.weight, edge), period, found);
             }
         }
     }
 
-    /// Which candidate an open uses (Opening a line, 4).
-    pub(crate) fn best_candidate(&self, period: u16) -> Option<Candidate> {
+    /// All candidates, called on the root.
+    pub(crate) fn candidates(&self, period: u16) -> Vec<Candidate> {
         let mut found = Vec::new();
-        self.candidates(&Position::root(), period, &mut found);
+        self.add_candidates(&Position::root(), period, &mut found);
         found
-            .into_iter()
-            .min_by_key(|it| (Reverse(it.position.level()), it.position.offset))
+    }
+
+    /// Which candidate an open takes (Ask 6, 2); no other offers the same start (Ask 6, 3).
+    pub(crate) fn earliest_candidate(&self, period: u16) -> Option<Candidate> {
+        let candidates = self.candidates(period).into_iter();
+        candidates.min_by_key(Candidate::start)
     }
 
     /// The node that stands under these edges, from this node on.
@@ -212,7 +216,7 @@ impl Node {
             Under::Node(Node::with_line(q, line))
         };
         node.edges.insert(*class, under);
-        Start(position.offset + class * position.step)
+        candidate.start()
     }
 
     /// Leaves this node itself in place, even without edges (Closing a line, 1).
@@ -259,7 +263,9 @@ impl Plan {
             self.root = Some(Node::with_line(period, line));
             return Ok(Start(0));
         };
-        let candidate = root.best_candidate(period).ok_or(Refusal::NoCandidate)?;
+        let candidate = root
+            .earliest_candidate(period)
+            .ok_or(Refusal::NoCandidate)?;
         Ok(root.carry_out(&candidate, line, period))
     }
 

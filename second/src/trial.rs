@@ -28,7 +28,7 @@ pub fn trial(plan: &Plan, line: u64, period: u64) -> Result<Trial, Refusal> {
 /// empty plan has none.
 fn splits(plan: &Plan, period: u16) -> bool {
     let root = plan.root.as_ref();
-    let chosen = root.and_then(|root| root.best_candidate(period));
+    let chosen = root.and_then(|root| root.earliest_candidate(period));
     chosen.is_some_and(|candidate| candidate.is_split())
 }
 
@@ -100,7 +100,7 @@ mod tests {
         let plan = plan_of(&[4, 6, 8], &[]);
         tried(&plan, &[(2, Err(5)), (12, Ok((3, 1, WHOLE)))]);
         let plan = plan_of(&[4, 6, 8, 12], &[]);
-        tried(&plan, &[(6, Ok((5, 0, WHOLE))), (12, Ok((9, 0, WHOLE)))]);
+        tried(&plan, &[(6, Ok((5, 0, WHOLE))), (12, Ok((5, 1, WHOLE)))]);
     }
 
     #[test]
@@ -110,7 +110,7 @@ mod tests {
         tried(&plan, &[(2, Err(5)), (6, Err(5))]);
         tried(&plan, &[(4, Ok((2, 0, WHOLE))), (8, Ok((2, 1, WHOLE)))]);
         tried(&plan_of(&[6], &[]), &[(12, Ok((1, 1, WHOLE)))]);
-        tried(&plan_of(&[6, 12], &[]), &[(12, Ok((7, 0, WHOLE)))]);
+        tried(&plan_of(&[6, 12], &[]), &[(12, Ok((2, 1, WHOLE)))]);
     }
 
     #[test]
@@ -121,7 +121,7 @@ mod tests {
         tried(&plan, &[(2, Ok((1, 0, WHOLE))), (4, Ok((1, 1, WHOLE)))]);
     }
 
-    /// Each power adds its node; another line then takes the free edge of the deepest node.
+    /// Each power adds its node; another line then takes the free edge of the last one.
     #[test]
     fn case_f() {
         let powers: Vec<u64> = (1..=11).map(|power| 1 << power).collect();
@@ -192,6 +192,19 @@ mod tests {
     fn a_node_below_the_root_is_split() {
         let plan = plan_of(&[2, 12], &[]);
         tried(&plan, &[(4, Ok((3, 1, SPLIT))), (8, Ok((3, 2, SPLIT)))]);
+    }
+
+    /// The earliest candidate says whether a node is split (Ask 6, 2). First the root offers 0,
+    /// and its node of weight 6 would be split for 3; then that node is split for 1, and the other
+    /// node of the root, which has room, offers 2.
+    #[test]
+    fn the_earliest_candidate_is_whole_or_split() {
+        let plan = plan_of(&[2, 12], &[1]);
+        tried(&plan, &[(4, Ok((0, 1, WHOLE))), (8, Ok((0, 1, WHOLE)))]);
+        let mut plan = plan_of(&[2, 12, 12], &[1]);
+        assert_eq!(plan.open(4, 4), Ok(Start(0)));
+        plan.close(2).unwrap();
+        tried(&plan, &[(4, Ok((1, 1, SPLIT))), (8, Ok((1, 2, SPLIT)))]);
     }
 
     /// The open is made, and its plan compared with the one before, by level and offset. Start and

@@ -1,7 +1,7 @@
 //! Opening and closing a line.
 
 use super::paths::{is_closed, legal, length, same_node};
-use super::search::{best_candidate, lines_end, Spot};
+use super::search::{best_candidate, open_lines, Spot};
 use super::{plan_in_mut, refused, Path, Plan, EMPTY, ROWS};
 use crate::Record;
 
@@ -41,17 +41,13 @@ fn book_first(plan: &mut Plan, line: usize, period: u16) -> i64 {
 }
 
 fn book_at(plan: &mut Plan, line: usize, period: u16, spot: Spot) -> i64 {
-    let Spot {
-        node,
-        divisor,
-        class,
-    } = spot;
+    let Spot { node, divisor, .. } = spot;
     let quotient = period / (node.step * divisor);
     if divisor < plan[node.line][node.level][0] {
         split_node(plan, node.line, node.level, divisor);
     }
     place_line(plan, line, spot, quotient);
-    i64::from(node.offset + class * node.step)
+    spot.start().into()
 }
 
 /// Opens a line in a plan that is a tree.
@@ -66,12 +62,13 @@ pub fn open_line(plan: &mut Plan, line: u64, period: u64) -> i64 {
     if !is_closed(&plan[line]) {
         return refused(3);
     }
-    match lines_end(plan) {
-        0 => book_first(plan, line, period),
-        end => match best_candidate(plan, end, period) {
-            Some(spot) => book_at(plan, line, period, spot),
-            None => refused(5),
-        },
+    let lines = open_lines(plan);
+    if lines.is_empty() {
+        return book_first(plan, line, period);
+    }
+    match best_candidate(lines, period) {
+        Some(spot) => book_at(plan, line, period, spot),
+        None => refused(5),
     }
 }
 

@@ -81,7 +81,7 @@ impl Plan {
         raw::is_tree(&self.rows) == 1
     }
 
-    /// Opens a line, and gives its start.
+    /// Opens a line, and gives its start: the smallest that a candidate offers, and 0 in an empty plan.
     ///
     /// # Errors
     ///

@@ -1,4 +1,4 @@
-//! The marked cases of document 01, through the bindings.
+//! The marked cases of document 01, case C as in document 02, Ask 6, and `earliest_start`, through the bindings.
 
 use gaplinte::{
     Answered, Answers, Line, OpenLine, Owner, Period, Plan, Refusal, Round, Row, Start,
@@ -77,7 +77,10 @@ fn case_b() {
 
 #[test]
 fn case_c() {
-    opened(&[(6, Ok(0)), (12, Ok(1)), (12, Ok(7))]);
+    let plan = opened(&[(6, Ok(0)), (12, Ok(1)), (12, Ok(2))]);
+    let paths = [1, 2, 3].map(|line| plan.show(Line(line)).unwrap().rows);
+    let expected: [&[_]; 3] = [&[(6, 0)], &[(6, 1), (2, 0)], &[(6, 2), (2, 0)]];
+    assert_eq!(paths, expected.map(path));
 }
 
 #[test]
@@ -152,6 +155,28 @@ fn case_i() {
     assert_eq!(plan.show(Line(1)).map(|shown| shown.period), Ok(Period(6)));
     assert_eq!(plan.show(Line(2)), Err(Refusal::LineNotOpen));
     assert_eq!(plan.show(Line(3)), Err(Refusal::LineNotOpen));
+    owners_fit(&plan);
+}
+
+/// Opens lines, each with a period, at these starts.
+fn book(plan: &mut Plan, lines: &[(u64, u64, u64)]) {
+    for &(line, period, start) in lines {
+        let answer = plan.open(Line(line), Period(period));
+        assert_eq!(answer, Ok(Start(start)), "line {line}");
+    }
+}
+
+/// The root has weight 4, and above each 8 stands a node of weight 2. For line 4 the root is full, and the nodes offer
+/// 5, 6 and 7. For line 5 the root offers 3, and the nodes above lines 4 and 2 offer 1 and 6.
+#[test]
+fn earliest_start() {
+    let mut plan = Plan::new();
+    book(&mut plan, &[(0, 4, 0)]);
+    book(&mut plan, &[(1, 8, 1), (2, 8, 2), (3, 8, 3), (4, 8, 5)]);
+    for line in [1, 3] {
+        assert_eq!(plan.close(Line(line)), Ok(()));
+    }
+    book(&mut plan, &[(5, 8, 1), (6, 8, 3), (7, 8, 6)]);
     owners_fit(&plan);
 }
 

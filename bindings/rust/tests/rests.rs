@@ -97,10 +97,10 @@ fn past_64_bits() {
     expect(&opened(&[(2, 0)]), &[(u64::MAX, 1)]);
     // Of 2,048 rounds the last one alone is idle, and 2^64 divided by 2,048 leaves 0.
     expect(&opened(&case_f()), &[(2047, 1), (u64::MAX, 1)]);
-    // 2^64 divided by 12 leaves 4: 2^64 + 2 leaves 6, and is the next one that is owned.
+    // 2^64 divided by 12 leaves 4: 2^64 - 1 leaves 3, and 2^64 + 2 leaves 6 and is the next one that is owned.
     let plan = opened(&CASE_C);
-    expect(&plan, &[(2, 4), (3, 3), (11, 1)]);
-    expect(&plan, &[(u64::MAX - 1, 4), (u64::MAX, 3)]);
+    expect(&plan, &[(3, 3), (5, 1), (7, 5), (11, 1)]);
+    expect(&plan, &[(u64::MAX - 4, 1), (u64::MAX, 3)]);
 }
 
 /// Round 10 is line 3's: when it is closed 12 is the next owned round, and without line 1 it is 13.

@@ -13,8 +13,8 @@ use second::record::{drawn_write, Held};
 use second::shapes::Shape;
 use std::array;
 
-const LISTS_OF_A_SHAPE: usize = 25;
-const DAMAGED_OF_A_SHAPE: usize = 50;
+const LISTS_OF_A_SHAPE: usize = 30;
+const DAMAGED_OF_A_SHAPE: usize = 60;
 const WRITES: usize = 8;
 const ROUNDS: u16 = 1000;
 const MOST: u16 = u16::MAX;
@@ -80,8 +80,8 @@ fn past_64_bits() {
     // 2730 times 24 rounds, and 15 that leave 15 to 23 and 0 to 5.
     let of_most = figures(&[16_384, 10_922, 8192, 5462], 24_575);
     expect(&plan, last, MOST, of_most);
-    // 2^64 leaves 4 when it is divided by 12: 2^64 + 2 and 2^64 + 3 leave 6 and 7.
-    expect(&opened(&CASE_C), last, 5, figures(&[1, 0, 1], 3));
+    // 2^64 leaves 4 when it is divided by 12: 2^64 + 2, 2^64 + 8 and 2^64 + 9 leave 6, 0 and 1.
+    expect(&opened(&CASE_C), last, 11, figures(&[2, 1], 8));
 }
 
 /// Line 3 owned 3 of 24 rounds, and 8192 of the most rounds past 2^64.

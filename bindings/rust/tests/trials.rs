@@ -1,5 +1,5 @@
-//! A trial: what an open would bring about. What is expected is worked out from document 01's rules, or counted in the
-//! records before and after the open.
+//! A trial: what an open would bring about. What is expected is worked out from the rules of documents 01 and 02, or
+//! counted in the records before and after the open.
 
 use gaplinte::{raw, Call, Line, Period, Plan, Refusal, Start, Trial};
 use second::lists;
@@ -161,7 +161,7 @@ fn marked_cases() {
     let first = |period| (period, Ok((0, 1, false)));
     case_a();
     opened(&[first(4), (4, Ok((1, 0, false))), (2, NO_CANDIDATE)]);
-    opened(&[first(6), (12, Ok((1, 1, false))), (12, Ok((7, 0, false)))]);
+    opened(&[first(6), (12, Ok((1, 1, false))), (12, Ok((2, 1, false)))]);
     opened(&[first(1), (1, NO_CANDIDATE), (4095, NO_CANDIDATE)]);
     opened(&[first(2), (3, NO_CANDIDATE)]);
     opened(&[first(4095)]);
@@ -170,6 +170,34 @@ fn marked_cases() {
     let mut plan = opened(&[first(6), (2, Ok((1, 1, true))), (3, NO_CANDIDATE)]);
     assert_eq!(plan.close(Line(2)), Ok(()));
     expect(&plan, &[(3, NO_CANDIDATE), (2, Ok((1, 0, false)))]);
+}
+
+/// Tries and opens lines, each with a period: start and nodes added are these, and no node is split.
+fn book(plan: &mut Plan, lines: &[(u64, u64, u64, u16)]) {
+    for &(line, period, start, added) in lines {
+        let told = open_as_tried(plan, Line(line), Period(period));
+        let expected = Trial {
+            start: Start(start),
+            added,
+            split: false,
+        };
+        assert_eq!(told, Ok(expected), "line {line}");
+    }
+}
+
+/// The root has weight 4, and above each 8 stands a node of weight 2, which another 8 can share.
+#[test]
+fn earliest_start() {
+    let mut plan = Plan::new();
+    book(&mut plan, &[(0, 4, 0, 1)]);
+    book(&mut plan, &[(1, 8, 1, 1), (2, 8, 2, 1), (3, 8, 3, 1)]);
+    // The root is full, and the nodes offer 5, 6 and 7.
+    book(&mut plan, &[(4, 8, 5, 0)]);
+    for line in [1, 3] {
+        assert_eq!(plan.close(Line(line)), Ok(()));
+    }
+    // The root offers 3, and the nodes above lines 4 and 2 offer 1 and 6.
+    book(&mut plan, &[(5, 8, 1, 0), (6, 8, 3, 1), (7, 8, 6, 0)]);
 }
 
 /// In a node of weight 12 class 1 is free for each d but 1. Each of the classes 0 and 2 modulo d gets a node of weight
@@ -194,10 +222,11 @@ fn classes_of_a_split() {
     expect(&two_edges_of_12(), &periods);
 }
 
-/// Under edge 1 of the root a node of weight 4 and step 2, whose edge 0 leads to the 8.
+/// Under edge 1 of the root a node of weight 4 and step 2, whose edge 0 leads to the 8. Without the 2 the root offers
+/// 0, and no node is split.
 #[test]
 fn a_split_below_the_root() {
-    let plan = opened(&[(2, Ok((0, 1, false))), (8, Ok((1, 1, false)))]);
+    let mut plan = opened(&[(2, Ok((0, 1, false))), (8, Ok((1, 1, false)))]);
     let periods = [
         (4, Ok((3, 1, true))),
         (12, Ok((3, 2, true))),
@@ -206,6 +235,20 @@ fn a_split_below_the_root() {
         (6, NO_CANDIDATE),
     ];
     expect(&plan, &periods);
+    assert_eq!(plan.close(Line(1)), Ok(()));
+    expect(&plan, &[4, 12].map(|period| (period, Ok((0, 1, false)))));
+}
+
+/// Under edge 0 of the root a node of weight 2, which offers 2. Under edge 1 one of weight 6, whose edge 1 leads to the
+/// second 12: it offers 1, and would be split.
+#[test]
+fn a_split_for_an_earlier_start() {
+    let told = [(2, 0, 1), (12, 1, 1), (12, 3, 0)];
+    let mut plan = opened(&told.map(|(period, start, added)| (period, Ok((start, added, false)))));
+    assert_eq!(plan.close(Line(1)), Ok(()));
+    assert_eq!(plan.open(Line(4), Period(4)), Ok(Start(0)));
+    assert_eq!(plan.close(Line(2)), Ok(()));
+    expect(&plan, &[(4, Ok((1, 1, true))), (8, Ok((1, 2, true)))]);
 }
 
 #[test]
@@ -214,14 +257,24 @@ fn deep_plans() {
     let plan = rising_powers();
     expect(&plan, &[(2048, Ok((2047, 0, false))), (1024, NO_CANDIDATE)]);
     // The first root, and k nodes for each k from 1 to 7.
-    let plan = falling_powers();
+    let mut plan = falling_powers();
     assert_eq!(count_nodes(&paths(&plan)), 29);
-    // The root has weight 16 and edges 0 to 7; under edge 0 is the deepest node, of weight 2, step 1,024 and offset 0.
+    // The root has weight 16 and edges 0 to 7. The nodes below it have step 16 at least, and offer 16 at least.
     let periods = [
-        (2048, Ok((1024, 0, false))),
+        (2048, Ok((8, 1, false))),
         (16, Ok((8, 0, false))),
         (48, Ok((8, 1, false))),
         (24, NO_CANDIDATE),
+    ];
+    expect(&plan, &periods);
+    // With eight more lines of 16 the root is full. The node under its edge 0 offers 16, and each other one more.
+    for line in 10..18 {
+        assert_eq!(plan.open(Line(line), Period(16)), Ok(Start(line - 2)));
+    }
+    let periods = [
+        (2048, Ok((16, 1, false))),
+        (32, Ok((16, 0, false))),
+        (16, NO_CANDIDATE),
     ];
     expect(&plan, &periods);
 }
@@ -304,8 +357,8 @@ fn each_period() {
     }
 }
 
-/// Tries a line that is not open on the plan that a list left, for periods that share a factor with one of the plan's.
-fn try_after_a_list(plan: &Plan) -> Vec<Result<Trial, Refusal>> {
+/// Tries a line that is not open, for periods that share a factor with one of the plan's.
+fn try_factors(plan: &Plan) -> Vec<Result<Trial, Refusal>> {
     let open: Vec<_> = plan.lines().map(|it| it.line).collect();
     let Some(line) = (0..64).map(Line).find(|line| !open.contains(line)) else {
         return Vec::new();
@@ -318,25 +371,34 @@ fn try_after_a_list(plan: &Plan) -> Vec<Result<Trial, Refusal>> {
         .collect()
 }
 
-/// All that is told where every open of a generated list is tried first, and more after the list.
-fn try_lists(shape: Shape) -> Vec<Result<Trial, Refusal>> {
-    let mut random = Random::new(16);
+/// Carries out an order of a list; an open is tried first.
+fn run_as_tried(plan: &mut Plan, order: [u8; 3]) -> Option<Result<Trial, Refusal>> {
+    match Call::read(order) {
+        Ok(Call::Open(line, period)) => return Some(open_as_tried(plan, line, period)),
+        // A close that is refused leaves the plan as found.
+        Ok(Call::Close(line)) => drop(plan.close(line)),
+        Err(_) => {}
+    }
+    None
+}
+
+/// All that is told where every open of a list is tried first, and more after every 16 orders and after the last one.
+fn try_list(list: &[u8]) -> Vec<Result<Trial, Refusal>> {
+    let mut plan = Plan::new();
     let mut told = Vec::new();
-    for _ in 0..LISTS_OF_A_SHAPE {
-        let mut plan = Plan::new();
-        for &order in lists::generate(shape, &mut random).as_chunks().0 {
-            match Call::read(order) {
-                Ok(Call::Open(line, period)) => {
-                    told.push(open_as_tried(&mut plan, line, period));
-                }
-                // A close that is refused leaves the plan as found.
-                Ok(Call::Close(line)) => drop(plan.close(line)),
-                Err(_) => {}
-            }
-        }
-        told.extend(try_after_a_list(&plan));
+    for orders in list.as_chunks().0.chunks(16) {
+        let orders = orders.iter();
+        told.extend(orders.filter_map(|&order| run_as_tried(&mut plan, order)));
+        told.extend(try_factors(&plan));
     }
     told
+}
+
+/// All that is told of generated lists.
+fn try_lists(shape: Shape) -> Vec<Result<Trial, Refusal>> {
+    let mut random = Random::new(16);
+    let lists = (0..LISTS_OF_A_SHAPE).map(|_| lists::generate(shape, &mut random));
+    lists.flat_map(|list| try_list(&list)).collect()
 }
 
 /// Every refusal that an open in a list can have, and every kind of change is seen often. Without a split one node is added at

@@ -1,7 +1,7 @@
 -- The record of an opened tree: what the code writes into the record of the tree before (`booked_at` of crate paths, specs/Rules.antt).
 -- Assumes nothing.
 use Rattle.std.specs.Prelude.{if◌then◌else◌, Option, None, Some, unwrap_or}
-use Prim.Native.Nat.{ℕ, ◌+◌, ◌*◌, ◌/◌, ◌<◌}
+use Prim.Native.Nat.{ℕ, ◌*◌, ◌/◌, ◌<◌}
 use native.Mathlib.Omega.{arith}
 use mathlib.Core.Path.{◌≡◌, refl, sym, ◌∙◌, ap, subst}
 use mathlib.Core.Bool.{Bool, true, false, true≢false}
@@ -11,10 +11,10 @@ use lib.ListN.{length, take}
 use Rattle.tree.specs.declared.Row.{Row}
 use Rattle.tree.specs.declared.Plan.{Plan}
 use Rattle.tree.specs.Tree.{Tree, present, path, path_of}
-use Rattle.tree.specs.Opening.{opened, start_in, start_given}
+use Rattle.tree.specs.Opening.{start_at, opened, start_in, start_given}
 use Rattle.tree.specs.Asking.{rows_11}
 use Rattle.tree.specs.Record.{path_at, legal, tree_of, numbers, record_of}
-use Rattle.paths.specs.Rules.{row_of, same_node, Spot, place_of, split_path, split_lines, booked_path, booked_at}
+use Rattle.paths.specs.Rules.{row_of, same_node, Spot, place_of, spot_start, split_path, split_lines, booked_path, booked_at}
 use Rattle.tree.proofs.Standing.{path_stands}
 use Rattle.tree.proofs.UnderEdge.{stands_present}
 use Rattle.tree.proofs.Opening.{MayOpen, opened_legal}
@@ -150,6 +150,6 @@ module _ (plan : Plan) (L p : ℕ) (s : Spot) (is_legal : legal plan.rows ≡ tr
   spot_present = stands_present s.line t _ _ (path_stands s.line t ps line_path)
 
   -- the start that the code answers
-  pub booked_start : s.offset + s.class * s.step ≡ start_given p t
-  unfolding start_given start_in place_of
+  pub booked_start : spot_start s ≡ start_given p t
+  unfolding spot_start start_given start_in start_at place_of
   booked_start = rw (spot_present, found_spot.chosen_is) (cc)

@@ -1,7 +1,7 @@
 -- An open and a close on a legal record, each way that they can go: what is written is the record of the tree that the rules leave.
 -- Assumes nothing.
 use Rattle.std.specs.Prelude.{if◌then◌else◌, Option, None, Some}
-use Prim.Native.Nat.{ℕ, ◌+◌, ◌*◌, ◌<◌, ◌≤◌}
+use Prim.Native.Nat.{ℕ, ◌<◌, ◌≤◌}
 use native.Mathlib.Omega.{arith}
 use mathlib.Core.Path.{◌≡◌, sym, ◌∙◌, ap, subst}
 use mathlib.Core.Bool.{Bool, true, false, not, ◌&&◌, and-false}
@@ -13,7 +13,7 @@ use Rattle.tree.specs.Opening.{opened, start_given}
 use Rattle.tree.specs.Refusals.{no_room, period_out_of_range, open_refusal}
 use Rattle.tree.specs.Calls.{Call, open_line, close_line, booked, done, refused, refusal, reply, carried_out, answer_unless, answer}
 use Rattle.tree.specs.Record.{path_at, no_rows, legal, record_of}
-use Rattle.paths.specs.Rules.{Spot, best_of_lines, set_line, booked_at}
+use Rattle.paths.specs.Rules.{Spot, spot_start, best_of_lines, set_line, booked_at}
 use Rattle.tree.proofs.UnderEdge.{stands_present}
 use Rattle.tree.proofs.Standing.{open_stands}
 use Rattle.tree.proofs.Checks.{open_last_check, close_allowed, open_may}
@@ -97,7 +97,7 @@ module _ (rows : List ℕ) (is_legal : legal rows ≡ true) (long : length rows 
       pub may_open : MayOpen L p t
       may_open = open_may L p t (legal_on_record rows) not_refused
 
-      pub open_booked_on : CarriedOut (open_line L p) rows (booked_at rows L p s) (booked (s.offset + s.class * s.step))
+      pub open_booked_on : CarriedOut (open_line L p) rows (booked_at rows L p s) (booked (spot_start s))
       unfolding refusal reply carried_out tree_of_rows
       open_booked_on =
           subst (λ (a : ℕ). CarriedOut (open_line L p) rows (booked_at rows L p s) (booked a))

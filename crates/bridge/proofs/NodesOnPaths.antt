@@ -23,7 +23,7 @@ use Rattle.tree.proofs.Searching.{some_below_true}
 use Rattle.tree.proofs.UnderEdge.{stands_present}
 use Rattle.tree.proofs.Proper.{Proper, legal_proper}
 use Rattle.tree.proofs.Standing.{path_of_line, path_below, path_stands, sum_row}
-use Rattle.tree.proofs.ChosenCandidate.{at_under}
+use Rattle.tree.proofs.CandidatePlaces.{at_under}
 use Rattle.tree.proofs.Opening.{at_proper}
 use Rattle.tree.proofs.Numbering.{stands_number}
 use Rattle.paths.proofs.SameNode.{same_node_goes_on, same_node_by_edges}

@@ -1,7 +1,7 @@
 -- The search over the paths (`best_of_lines` of crate paths, specs/Rules.antt) finds the chosen candidate of the tree, and none only where none is chosen.
 -- Assumes nothing.
 use Rattle.std.specs.Prelude.{if◌then◌else◌, None, Some}
-use Prim.Native.Nat.{ℕ, ◌<◌}
+use Prim.Native.Nat.{ℕ, ◌<◌, ◌≤◌}
 use mathlib.Core.Path.{◌≡◌, refl, sym, ◌∙◌, ap, subst}
 use mathlib.Core.Bool.{true, false, false≢true, not-eq-not, and-eq-true_iff}
 use lib.ListN.{length, take}
@@ -9,8 +9,8 @@ use Rattle.tree.specs.Numbers.{divides}
 use Rattle.tree.specs.Search.{found}
 use Rattle.tree.specs.Tree.{Tree, nothing, line, node, sum, Place, at, way, step}
 use Rattle.tree.specs.Shape.{Legal}
-use Rattle.tree.specs.Opening.{divisor, free_class, candidate, candidate_at, before, NoCandidate, class_at, chosen}
-use Rattle.paths.specs.Rules.{Family, row_of, Spot, place_of, spot_at, best_of_lines}
+use Rattle.tree.specs.Opening.{divisor, free_class, candidate, candidate_at, class_at, start_at, NoCandidate, chosen}
+use Rattle.paths.specs.Rules.{Family, row_of, Spot, place_of, spot_start, spot_at, best_of_lines}
 use Rattle.tree.proofs.Searching.{if_some}
 use Rattle.tree.proofs.Proper.{legal_proper}
 use Rattle.tree.proofs.ChosenCandidate.{no_candidate_chosen_none, is_chosen_chosen}
@@ -43,8 +43,9 @@ module _ (t : Tree) (legal : Legal t) (family : Family) (paths : PathsOf t famil
   spot_candidate M l s below long h =
       if_some (candidate_at p t (place_on l (family M))) (spot_on p t M l (family M)) s (sym (spot_at_is t legal family paths M l below long p) ∙ h)
 
-  candidate_spot : (a : Place) → candidate_at p t a ≡ true → (s : Spot) × OnLines family p 64 s × (place_of s ≡ a)
-  unfolding candidate_at place_of spot_on
+  -- the spot of a candidate offers its start
+  candidate_spot : (a : Place) → candidate_at p t a ≡ true → (s : Spot) × OnLines family p 64 s × (spot_start s ≡ start_at p t a)
+  unfolding candidate_at spot_on spot_start start_at
   candidate_spot a h =
       let x = candidate_node p (step a t) (at a t) h in
       let y = (node_path t legal a x.0 x.1 x.2).1 in
@@ -57,7 +58,7 @@ module _ (t : Tree) (legal : Legal t) (family : Family) (paths : PathsOf t famil
       let spot = spot_on p t M l (family M) in
       let offered : spot_at family p M l ≡ Some spot =
       spot_at_is t legal family paths M l y.line_below long p ∙ ap (λ b. if b then Some spot else None) (ap (candidate_at p t) same ∙ h) in
-      (spot, (M, y.line_below, (l, long, offered)), same)
+      (spot, (M, y.line_below, (l, long, offered)), ap (start_at p t) same)
 
   -- The search finds the chosen candidate
 
@@ -83,22 +84,21 @@ module _ (t : Tree) (legal : Legal t) (family : Family) (paths : PathsOf t famil
         class_is = refl;
       }
 
-  -- a candidate that no spot comes before is the chosen one
-  first_chosen : (a : Place) → candidate_at p t a ≡ true → ((q : Spot) → OnLines family p 64 q → before (place_of q) a ≡ false) → chosen p t ≡ Some a
-  first_chosen a h none_before =
+  -- a candidate is the chosen one where no spot offers a smaller start
+  smallest_chosen : (a : Place) → candidate_at p t a ≡ true → ((q : Spot) → OnLines family p 64 q → start_at p t a ≤ spot_start q) → chosen p t ≡ Some a
+  smallest_chosen a h smallest =
       is_chosen_chosen p t a (legal_proper t legal) (record {
         is_candidate = h;
-        none_before = λ b k. let y = candidate_spot b k in rw y.2 at (none_before y.0 y.1);
+        smallest_start = λ b k. let y = candidate_spot b k in rw y.2 at (smallest y.0 y.1);
       })
 
   pub search_some : (s : Spot) → best_of_lines family p 64 ≡ Some s → FoundSpot p t family s
-  unfolding place_of spot_on
+  unfolding spot_on spot_start start_at
   search_some s e =
       let picked = rw e at (picks_of_lines family p 64) in
       let x = picked.0 in
       let M = x.0 in
       let l = x.2.0 in
       let spot = spot_candidate M l s x.1 x.2.1 x.2.2 in
-      let first = first_chosen (place_on l (family M)) spot.0 λ q on.
-      ap (λ (r : Spot). before (place_of q) (place_of r)) spot.1 ∙ picked.1 q on in
-      subst (FoundSpot p t family) spot.1 (found_on_path M l x.1 x.2.1 first)
+      let smallest = smallest_chosen (place_on l (family M)) spot.0 λ q on. rw (← spot.1) at (picked.1 q on) in
+      subst (FoundSpot p t family) spot.1 (found_on_path M l x.1 x.2.1 smallest)

@@ -1,6 +1,6 @@
 -- What holds of a spot where a line may be opened: its numbers are in range, and there are rows left for what is written.
 -- Assumes nothing.
-use Prim.Native.Nat.{ℕ, zero, suc, ◌+◌, ◌*◌, ◌/◌, ◌<◌, ◌≤◌}
+use Prim.Native.Nat.{ℕ, zero, suc, ◌*◌, ◌/◌, ◌<◌, ◌≤◌}
 use native.Mathlib.Omega.{arith}
 use native.Mathlib.Nat.{mul_assoc, le-mul_of_pos_right, one-mul, zero-mul, eq-zero-or-pos}
 use mathlib.Core.Path.{◌≡◌, refl, sym, ◌∙◌, ap, subst}
@@ -12,19 +12,18 @@ use lib.ListN.{length, take}
 use Rattle.tree.specs.declared.Row.{Row}
 use Rattle.tree.specs.declared.Plan.{Plan}
 use Rattle.tree.specs.Tree.{Tree, at, way, step}
-use Rattle.tree.specs.Opening.{class_at, opened, start_given}
+use Rattle.tree.specs.Opening.{class_at, opened}
 use Rattle.tree.specs.Record.{path_at, legal, tree_of}
 use Rattle.paths.specs.Rules.{row_of, same_node, Spot, place_of, split_path, booked_path}
-use Rattle.tree.proofs.Standing.{start_below_period}
 use Rattle.tree.proofs.Proper.{legal_proper}
 use Rattle.tree.proofs.Depth.{at_most_11_above}
 use Rattle.tree.proofs.BookingAt.{Fit, FitIn}
-use Rattle.tree.proofs.Opening.{MayOpen, chosen_fits, opened_legal, opened_new}
+use Rattle.tree.proofs.Opening.{MayOpen, chosen_fits, opened_legal}
 use Rattle.paths.proofs.SameNode.{same_node_goes_on}
 use Rattle.bridge.proofs.ClassOnPaths.{family_path}
 use Rattle.bridge.proofs.SearchOnPaths.{FoundSpot}
 use Rattle.bridge.proofs.TreeOfRecord.{tree_of_paths}
-use Rattle.bridge.proofs.BookedRecord.{through_path, new_line_path, booked_start}
+use Rattle.bridge.proofs.BookedRecord.{through_path, new_line_path}
 
 split_path_length : (l d : ℕ) (rs : List Row) → l < length rs → length (split_path l d rs) ≡ suc (length rs)
 unfolding split_path
@@ -76,12 +75,6 @@ module _ (plan : Plan) (L p : ℕ) (s : Spot) (is_legal : legal plan.rows ≡ tr
           let none : p ≡ 0 = sym factors_are ∙ sym (mul_assoc s.step s.divisor (p / (s.step * s.divisor))) ∙ ap (λ (n : ℕ). n * (p / (s.step * s.divisor))) z ∙ zero-mul (p / (s.step * s.divisor)) in
           let positive = may.period_positive in
           absurd (omega arith)
-
-  -- the start answered is below the period
-  pub start_below : s.offset + s.class * s.step < p
-  start_below =
-      rw (booked_start plan L p s is_legal long may found_spot)
-      (start_below_period L (opened L p t) p (start_given p t) (opened_new L p t may))
 
   -- a line through the node has a row left where the node is split
   pub row_left : (M : ℕ) → M < 64 → same_node s.level ps (path_at plan.rows M) ≡ true → s.divisor < weight → length (path_at plan.rows M) < 11

@@ -1,3 +1,3 @@
-// Proofs only: that the rules over paths, as the code follows them, are document 01's rules over the tree.
+// Proofs only: that the rules over paths, as the code follows them, are the rules of documents 01 and 02 over the tree.
 
 #![tactic(auto)]

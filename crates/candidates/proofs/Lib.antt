@@ -1,10 +1,11 @@
 pub mod Euclid
-pub mod Spots
 pub mod NothingBetter
-pub mod SeenEarlier
+pub mod OneNode
+pub mod Spots
+pub mod NodeNumbers
 pub mod Marks
 pub mod PresentEdges
 pub mod FreeClass
-pub mod BetterOffer
-pub mod BestOnPath
 pub mod LinesEnd
+pub mod SeenNodes
+pub mod PathSearch

@@ -28,14 +28,14 @@ bit_after_or x b c =
           rw (as_before, ne_eqb b c other) (sym (or-false (eqb (x / 2 ^ c % 2) 1)))
     ]
 
-zero_word : (n k : ℕ) → ◌≡◌ {A = ℕ} (get_or (replicate n 0) k 0) 0
-zero_word zero k = refl
-zero_word (suc n) zero = refl
-zero_word (suc n) (suc k) = zero_word n k
+pub zero_entry : (n k : ℕ) → ◌≡◌ {A = ℕ} (get_or (replicate n 0) k 0) 0
+zero_entry zero k = refl
+zero_entry (suc n) zero = refl
+zero_entry (suc n) (suc k) = zero_entry n k
 
 pub none_marked : (e : ℕ) → marked (replicate 64 0) e ≡ false
 unfolding marked
-none_marked e = rw (zero_word 64 (e / 64), zero-div (2 ^ (e % 64)))
+none_marked e = rw (zero_entry 64 (e / 64), zero-div (2 ^ (e % 64)))
 
 -- the bit is `1 << (e % 64)` in a word of 64 bits
 pub shifted_mark : (words : List ℕ) (e : ℕ) → set words (e / 64) (bit_or (get_or words (e / 64) 0) (1 * 2 ^ (e % 64) % 2 ^ 64)) ≡ with_mark words e

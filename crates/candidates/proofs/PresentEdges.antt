@@ -13,23 +13,21 @@ use Rattle.tree.specs.declared.Row.{Row}
 use Rattle.tree.specs.Search.{some_below}
 use Rattle.tree.specs.Record.{row_at, path_at, legal}
 use Rattle.paths.specs.Rules.{row_of, same_node, line_under}
-use Rattle.tree.proofs.Searching.{some_below_false, some_below_none}
+use Rattle.tree.proofs.Searching.{some_below_none}
 use Rattle.paths.proofs.NoneBelow.{some_below_more, some_below_up_to}
 use Rattle.paths.proofs.RowLaws.{no_rows_empty}
 use Rattle.paths.proofs.PathNumbers.{edge_below_weight, weight_small}
 use Rattle.paths.proofs.PathRows.{row_in_path}
 use Rattle.paths.proofs.SameNode.{same_node_none, same_node_comm, same_node_goes_on}
-use Rattle.candidates.specs.Answers.{seen_earlier}
 use Rattle.candidates.specs.Edges.{marked, with_mark, edge_present, MarksPresent, ClosedFrom, FirstThrough}
-use Rattle.candidates.proofs.SeenEarlier.{lines_through_one}
+use Rattle.candidates.proofs.OneNode.{lines_through_one}
 use Rattle.candidates.proofs.Marks.{none_marked, with_mark_length, marked_more}
 
 -- The lines through the node
 
 module _ {rows : List ℕ} {L l : ℕ} (first : FirstThrough rows L l) {M : ℕ} where
   earlier_line_apart : M < L → same_node l (path_at rows L) (path_at rows M) ≡ false
-  unfolding seen_earlier
-  earlier_line_apart earlier = same_node_comm l (path_at rows L) (path_at rows M) ∙ some_below_false L _ first.unseen M earlier
+  earlier_line_apart earlier = same_node_comm l (path_at rows L) (path_at rows M) ∙ first.first M earlier
 
   module _ (is_legal : legal rows ≡ true) (below : M < 64) (through : same_node l (path_at rows L) (path_at rows M) ≡ true) where
     one_weight : (row_of l (path_at rows M)).weight ≡ (row_of l (path_at rows L)).weight

@@ -1,69 +1,104 @@
--- What a node on a path has to offer, and the better of it and the best so far.
+-- What a node on a path has to offer, and from which round on.
 -- Assumes nothing.
 use Rattle.std.specs.Prelude.{if◌then◌else◌, Option, None, Some, option_map}
-use Prim.Native.Nat.{ℕ, ◌/◌, ◌<◌}
-use mathlib.Core.Path.{◌≡◌, refl, sym, ap}
-use mathlib.Core.Bool.{Bool, true, false, true≢false}
+use Prim.Native.Nat.{ℕ, zero, suc, ◌+◌, ◌*◌, ◌/◌, ◌%◌, ◌<◌, ◌≤◌}
+use native.Mathlib.Omega.{arith}
+use native.Mathlib.Nat.{le_of_dvd, mul-le-mul_right, mul_comm, zero-mod, add-mul, one-mul}
+use mathlib.Core.Path.{◌≡◌, refl, sym, ◌∙◌, subst}
+use mathlib.Core.Bool.{Bool, true, false, not, true≢false}
 use mathlib.Core.List.{List}
 use Rattle.std.proofs.lemmas.Option.{none-some, same_Some}
-use lib.ListN.{length}
+use borrow.Author.Tests.{eq-eqb, not-true}
+use lib.ListN.{length, take}
+use Rattle.tree.specs.declared.Row.{Row}
 use Rattle.tree.specs.Numbers.{divides, gcd}
-use Rattle.tree.specs.Tree.{Place}
+use Rattle.tree.specs.Tree.{product, sum}
 use Rattle.tree.specs.Opening.{divisor}
-use Rattle.tree.specs.Record.{row_at, path_at}
-use Rattle.paths.specs.Rules.{Family, row_of, Spot, place_of, class_on_path, spot_with, better_spot}
-use Rattle.candidates.specs.Answers.{comes_first}
+use Rattle.tree.specs.Record.{row_at, path_at, legal}
+use Rattle.tree.proofs.Divisors.{gcd_divides_left}
+use Rattle.tree.proofs.Searching.{smallest_some, some_below_at}
+use Rattle.paths.specs.Rules.{Family, row_of, same_node, class_taken, Spot, spot_start, class_on_path, spot_with, spot_at}
 use Rattle.paths.proofs.PathRows.{weight_read}
+use Rattle.paths.proofs.PathNumbers.{Carried, carried_row, carried_below, carried_small, edge_below_weight}
+use Rattle.paths.proofs.SameNode.{same_node_by_edges}
 
 -- The offer of one node
 
-module _ (rows : List ℕ) (p L l m r : ℕ) where
-  -- w was read as the node's weight, and d is the divisor
-  module _ (divided : divides m p ≡ true) (below : l < length (path_at rows L)) {w : ℕ} (read : w ≡ (row_at rows L l).weight) {d : ℕ} (common : d ≡ gcd w (p / m)) where
-    divisor_is : divisor p m (row_of l (path_at rows L)).weight ≡ d
-    unfolding divisor
-    divisor_is = rw (weight_read rows L below read) (sym common)
+-- an offer is that of a class which is free, at the node's place
+record OfferOf (family : Family) (p L l : ℕ) (s : Spot) : Type 0 where
+  pub step_divides : divides (product (take l (family L))) p ≡ true
+  pub class_is : class_on_path family (family L) l (divisor p (product (take l (family L))) (row_of l (family L)).weight) ≡ Some s.class
+  pub offset_is : s.offset ≡ sum (take l (family L))
+  pub step_is : s.step ≡ product (take l (family L))
 
-    pub offered : spot_with (path_at rows) p L l m r ≡ option_map (λ i. record { line = L; level = l; offset = r; step = m; divisor = d; class = i }) (class_on_path (path_at rows) (path_at rows L) l d)
-    unfolding spot_with
-    offered = rw (divided, divisor_is)
-
-pub step_not_dividing : (family : Family) (p M l m r : ℕ) → divides m p ≡ false → spot_with family p M l m r ≡ None
-unfolding spot_with
-step_not_dividing family p M l m r other = rw other
-
--- what a node offers is at the node's place
-pub spot_with_place : (family : Family) (p M l m r : ℕ) (s : Spot) → spot_with family p M l m r ≡ Some s → place_of s ≡ record { level = l; offset = r }
-unfolding spot_with place_of
-spot_with_place family p M l m r s h = go (divides m p) (class_on_path family (family M) l d) h
+offer_of : (family : Family) (p L l : ℕ) (s : Spot) → spot_at family p L l ≡ Some s → OfferOf family p L l s
+unfolding spot_at spot_with
+offer_of family p L l s h = go (divides m p) refl (class_on_path family (family L) l d) refl h
   where
+    m : ℕ
+    m = product (take l (family L))
+
     d : ℕ
-    d = divisor p m (row_of l (family M)).weight
+    d = divisor p m (row_of l (family L)).weight
 
     here : ℕ → Spot
-    here i = record { line = M; level = l; offset = r; step = m; divisor = d; class = i }
+    here i = record { line = L; level = l; offset = sum (take l (family L)); step = m; divisor = d; class = i }
 
-    go : (b : Bool) (o : Option ℕ) → (if b then option_map here o else None) ≡ Some s → place_of s ≡ record { level = l; offset = r }
-    go true None e = absurd (none-some s e)
-    go true (Some i) e = ap place_of (same_Some _ _ (sym e))
-    go false o e = absurd (none-some s e)
+    go : (b : Bool) → divides m p ≡ b → (o : Option ℕ) → class_on_path family (family L) l d ≡ o → (if b then option_map here o else None) ≡ Some s → OfferOf family p L l s
+    go true divided None class e = absurd (none-some s e)
+    go true divided (Some i) class e =
+        let same = same_Some (here i) s e in
+        subst (OfferOf family p L l) same (record { step_divides = divided; class_is = class; offset_is = refl; step_is = refl })
+    go false other o class e = absurd (none-some s e)
 
--- The better of two
+pub step_not_dividing : (family : Family) (p L l : ℕ) → divides (product (take l (family L))) p ≡ false → spot_at family p L l ≡ None
+unfolding spot_at spot_with
+step_not_dividing family p L l other = rw other
 
--- where the place does not come first, nothing found there is better
-pub stays_best : (a : Place) (o q : Option Spot) → comes_first a o ≡ false → ((s : Spot) → q ≡ Some s → place_of s ≡ a) → better_spot o q ≡ o
-unfolding comes_first better_spot
-stays_best a None q later at_place = absurd (true≢false later)
-stays_best a (Some b) None later at_place = refl
-stays_best a (Some b) (Some s) later at_place = rw (at_place s refl, later)
+-- From which round on a node offers
 
--- where it does, whatever is found there is better
-pub becomes_best : (a : Place) (o : Option Spot) (s : Spot) → comes_first a o ≡ true → place_of s ≡ a → better_spot o (Some s) ≡ Some s
-unfolding comes_first better_spot
-becomes_best a None s first at_place = refl
-becomes_best a (Some b) s first at_place = rw (at_place, first)
+-- nothing is offered before the node's offset
+pub offer_from_offset : (family : Family) (p L l : ℕ) (s : Spot) → spot_at family p L l ≡ Some s → sum (take l (family L)) ≤ spot_start s
+unfolding spot_start
+offer_from_offset family p L l s h = omega (arith, (offer_of family p L l s h).offset_is)
 
-pub better_than_none : (o : Option Spot) → better_spot o None ≡ o
-unfolding better_spot
-better_than_none None = refl
-better_than_none (Some b) = refl
+same_node_self : (l : ℕ) (ps : List Row) → l < length ps → same_node l ps ps ≡ true
+same_node_self l ps there = same_node_by_edges l ps ps there there (λ k above. refl)
+
+-- the line's own edge takes its class
+own_edge_takes : (family : Family) (L l d : ℕ) → L < 64 → l < length (family L) → class_taken family (family L) l d ((row_of l (family L)).edge % d) ≡ true
+unfolding class_taken
+own_edge_takes family L l d below there =
+    some_below_at 64 _ L below (rw (same_node_self l (family L) there) (eq-eqb ((row_of l (family L)).edge % d) ((row_of l (family L)).edge % d) refl))
+
+-- where the line takes edge 0, class 0 is taken, so nothing is offered before offset + step
+pub offer_past_edge_0 : (family : Family) (p L l : ℕ) → L < 64 → l < length (family L) → (row_of l (family L)).edge ≡ 0 → (s : Spot) → spot_at family p L l ≡ Some s →
+    sum (take l (family L)) + product (take l (family L)) ≤ spot_start s
+unfolding spot_start class_on_path
+offer_past_edge_0 family p L l below there edge_0 s h =
+    let x = offer_of family p L l s h in
+    let d = divisor p (product (take l (family L))) (row_of l (family L)).weight in
+    let smallest_free = smallest_some d (λ i. not (class_taken family (family L) l d i)) s.class x.class_is in
+    let taken : class_taken family (family L) l d 0 ≡ true = rw (edge_0, zero-mod d) at (own_edge_takes family L l d below there) in
+    let positive = positive_class (class_taken family (family L) l d) s.class smallest_free.passes taken in
+    let scaled : 1 * s.step ≤ s.class * s.step = mul-le-mul_right s.step positive in
+    omega (arith, scaled, one-mul s.step, x.offset_is, x.step_is)
+  where
+    positive_class : (taken : ℕ → Bool) (i : ℕ) → not (taken i) ≡ true → taken 0 ≡ true → 0 < i
+    positive_class taken zero free h0 = absurd (true≢false (sym h0 ∙ not-true (taken 0) free))
+    positive_class taken (suc i) free h0 = omega arith
+
+-- The offer in a legal record
+
+module _ {rows : List ℕ} (is_legal : legal rows ≡ true) {L : ℕ} (line_below : L < 64) {l : ℕ} (there : l < length (path_at rows L)) {m r : ℕ} (carried : Carried rows L m r l) where
+  -- a class below a divisor of the weight: its start is below the product of the step and the weight
+  pub start_small : (p : ℕ) {w : ℕ} → w ≡ (row_at rows L l).weight → {d : ℕ} → d ≡ gcd w (p / m) → {class : ℕ} → class_on_path (path_at rows) (path_at rows L) l d ≡ Some class → r + class * m ≤ 4095
+  unfolding class_on_path
+  start_small p {w} read {d} common {class} found =
+      let smallest_free = smallest_some d _ class found in
+      let weight_is = weight_read rows L there read in
+      let below_edge = edge_below_weight rows is_legal L line_below there in
+      let divides_weight : d ≤ w = rw common (le_of_dvd (omega (arith, weight_is, below_edge)) (gcd_divides_left w (p / m))) in
+      let more : (class + 1) * m ≤ w * m = mul-le-mul_right m (omega (arith, smallest_free.in_range)) in
+      let next = (carried_small (carried_row carried there refl read) is_legal line_below).0 in
+      omega (arith, carried_below carried is_legal line_below, more, add-mul class 1 m, one-mul m, mul_comm w m, next)

@@ -5,8 +5,7 @@ use Rattle.std.specs.Int.Bits.{bit_or}
 use Rattle.tree.specs.declared.Row.{Row}
 use Rattle.tree.specs.Search.{found}
 use Rattle.tree.specs.Record.{path_at, no_rows}
-use Rattle.paths.specs.Rules.{Family, line_under}
-use Rattle.candidates.specs.Answers.{seen_earlier}
+use Rattle.paths.specs.Rules.{Family, same_node, line_under}
 
 -- edge e is marked: bit e % 64 of word e / 64 is set
 unfoldable pub marked : List ℕ → ℕ → Bool
@@ -37,4 +36,4 @@ pub record EndOfLines (rows : List ℕ) (end : ℕ) : Type 0 where
 -- line L is the first whose path goes through the node at level l of its path
 pub record FirstThrough (rows : List ℕ) (L l : ℕ) : Type 0 where
   pub on_path : l < length (path_at rows L)
-  pub unseen : seen_earlier (path_at rows) L l ≡ false
+  pub first : (M : ℕ) → M < L → same_node l (path_at rows M) (path_at rows L) ≡ false

@@ -3,8 +3,8 @@ ghost use Rattle.std.specs.Prelude.{◌≡◌, ◌<◌, replicate};
 ghost use Rattle.tree.specs.Record.{path_at};
 ghost use Rattle.candidates.specs.Edges.{marked, with_mark, FirstThrough, MarksPresent};
 
-use crate::PathNode;
 use crate::open_lines::OpenLines;
+use crate::spot::PathNode;
 use paths::{edge, same_node};
 use tree::line::Line;
 

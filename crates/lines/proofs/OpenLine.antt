@@ -1,7 +1,7 @@
 -- The ways that an open can go on a legal record.
 -- Assumes nothing.
 use Rattle.std.specs.Prelude.{if◌then◌else◌, Option, None, Some, Result, Ok, Err}
-use Prim.Native.Nat.{ℕ, zero, suc, ◌+◌, ◌-◌, ◌*◌, ◌/◌, ◌<◌, ◌≤◌}
+use Prim.Native.Nat.{ℕ, zero, suc, ◌-◌, ◌*◌, ◌/◌, ◌<◌, ◌≤◌}
 use native.Mathlib.Omega.{arith}
 use mathlib.Core.Path.{◌≡◌, refl, ◌∙◌, ap, ap₂}
 use mathlib.Core.Bool.{Bool, true, false, not}
@@ -20,7 +20,7 @@ use Rattle.tree.proofs.Checks.{range_positive, range_at_most, period_in_range, o
 use Rattle.tree.proofs.Opening.{MayOpen}
 use Rattle.paths.proofs.RowLaws.{no_rows_empty}
 use Rattle.paths.proofs.LegalLines.{legal_rest_unused}
-use Rattle.candidates.specs.declared.Spot.{Spot as CandidateSpot}
+use Rattle.candidates.specs.declared.spot.Spot.{Spot as CandidateSpot}
 use Rattle.candidates.specs.Answers.{spot_in}
 use Rattle.candidates.specs.Edges.{ClosedFrom, EndOfLines}
 use Rattle.booking.specs.Writing.{Placeable}
@@ -29,7 +29,7 @@ use Rattle.bridge.proofs.SearchOnPaths.{FoundSpot}
 use Rattle.bridge.proofs.FirstRecord.{AllClosed}
 use Rattle.bridge.proofs.TreeOfRecord.{open_on_record}
 use Rattle.bridge.proofs.CallsOnRecords.{no_room_on, open_first_on, spot_found, may_open}
-use Rattle.bridge.proofs.SpotFacts.{divisor_positive, product_at_most, product_positive, start_below, row_left, rows_fit}
+use Rattle.bridge.proofs.SpotFacts.{divisor_positive, product_at_most, product_positive, row_left, rows_fit}
 use Rattle.bridge.proofs.BookedRecord.{split_path_at}
 use Rattle.lines.specs.Bookable.{Bookable, BookableAt, SplittableIfSmaller, split_if_smaller}
 use Rattle.lines.specs.Checks.{Searched, RoomFound}
@@ -120,13 +120,6 @@ module _ (rows : List ℕ) (L p : ℕ) (s : Spot) (ready_at : BookableAt rows L 
   pub product_not_zero : 0 < s.step * s.divisor
   unfolding tree_of_rows
   product_not_zero = product_positive (record { rows = rows }) L p s ready.is_legal long may_open_at found_spot
-
-  pub start_fits : s.offset + s.class * s.step < 4095
-  unfolding tree_of_rows
-  start_fits =
-      let below = start_below (record { rows = rows }) L p s ready.is_legal long may_open_at found_spot in
-      let range = range_at_most p ready.inside in
-      omega arith
 
   pub spot_splittable : SplittableIfSmaller rows s.line s.level s.divisor
   unfolding tree_of_rows

@@ -7,7 +7,7 @@ use Rattle.tree.specs.Answered.{number_of}
 use Rattle.tree.specs.Record.{path_at}
 use Rattle.paths.specs.Rules.{best_of_lines}
 use Rattle.bridge.specs.Rows.{tree_of_rows}
-use Rattle.candidates.specs.declared.Spot.{Spot}
+use Rattle.candidates.specs.declared.spot.Spot.{Spot}
 use Rattle.candidates.specs.Answers.{spot_in}
 use Rattle.candidates.specs.Edges.{ClosedFrom}
 use Rattle.lines.specs.declared.check.Room.{Room}

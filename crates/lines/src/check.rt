@@ -2,8 +2,9 @@
 // them; nothing is written.
 ghost use Rattle.lines.specs.Checks.{Searched, OpenChecked};
 
+use candidates::best_candidate;
 use candidates::open_lines::open_lines;
-use candidates::{Spot, best_candidate};
+use candidates::spot::Spot;
 use paths::record::TreeRecord;
 use tree::Period;
 use tree::line::Line;

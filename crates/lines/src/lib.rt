@@ -10,7 +10,7 @@ ghost use Rattle.bridge.specs.Rows.{CarriedOut};
 ghost use Rattle.lines.specs.Answers.{open_answer, close_answer};
 ghost use Rattle.lines.specs.Bookable.{BookableAt, SplittableIfSmaller, split_if_smaller};
 
-use candidates::Spot;
+use candidates::spot::Spot;
 use paths::record::TreeRecord;
 use tree::line::Line;
 use tree::refusal::Refusal;

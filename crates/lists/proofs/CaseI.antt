@@ -4,9 +4,9 @@ use Prim.Native.Nat.{ℕ}
 use mathlib.Core.Path.{◌≡◌, refl}
 use mathlib.Core.List.{List, [], ◌∷◌}
 use Rattle.tree.specs.Numbers.{divides, euclid, gcd}
-use Rattle.tree.specs.Search.{found, or_else, first, smallest, some_below, all_below}
+use Rattle.tree.specs.Search.{found, or_else, first, smaller_by, smallest_by, smallest, some_below, all_below}
 use Rattle.tree.specs.Tree.{nothing, present, product, sum_from, sum, path, is_open, path_of, period_of, start_of, at_digits, at, way_by_digits, way, step}
-use Rattle.tree.specs.Opening.{divisor, free, free_class, candidate, before, better, best_below, under, best, chosen, put, one_edge, group, split, newcomer, booking, book_by_digits, class_at, book_into, opened, start_in, start_given}
+use Rattle.tree.specs.Opening.{divisor, free, free_class, candidate, class_at, start_at, under, best, chosen, put, one_edge, group, split, newcomer, booking, book_by_digits, book_into, opened, start_in, start_given}
 use Rattle.tree.specs.Closing.{prune, closed}
 use Rattle.tree.specs.Refusals.{first_refusal, line_above_63, period_out_of_range, no_room, earlier_checks, open_refusal, line_refusal}
 use Rattle.tree.specs.Calls.{refusal, reply, carried_out, answer_unless, tree_unless, answer, after, gives_unless, show_outcome, turns_outcome}
@@ -22,5 +22,5 @@ case_i =
 
 pub case_i_answers : answer_bytes (list_answers nothing (orders_of case_i)) ≡
     (0x00 ∷ 0x00 ∷ 0x00 ∷ 0x01 ∷ 0x50 ∷ 0x00 ∷ 0x00 ∷ 0x00 ∷ 0x50 ∷ 0x00 ∷ 0x40 ∷ 0x00 ∷ [])
-unfolding divides euclid gcd found or_else first smallest some_below all_below present product sum_from sum path is_open path_of period_of start_of at_digits at way_by_digits way step divisor free free_class candidate before better best_below under best chosen put one_edge group split newcomer booking book_by_digits class_at book_into opened start_in start_given prune closed first_refusal line_above_63 period_out_of_range no_room earlier_checks open_refusal line_refusal refusal reply carried_out answer_unless tree_unless answer after gives_unless show_outcome turns_outcome order_of field joined kind line period filler kind_above_1 close_with_period filler_set reading_refusal call_of reading answer_read after_read order_answer order_after orders_of list_answers result_field start answer_word high_byte low_byte answer_bytes
+unfolding divides euclid gcd found or_else first smaller_by smallest_by smallest some_below all_below present product sum_from sum path is_open path_of period_of start_of at_digits at way_by_digits way step divisor free free_class candidate class_at start_at under best chosen put one_edge group split newcomer booking book_by_digits book_into opened start_in start_given prune closed first_refusal line_above_63 period_out_of_range no_room earlier_checks open_refusal line_refusal refusal reply carried_out answer_unless tree_unless answer after gives_unless show_outcome turns_outcome order_of field joined kind line period filler kind_above_1 close_with_period filler_set reading_refusal call_of reading answer_read after_read order_answer order_after orders_of list_answers result_field start answer_word high_byte low_byte answer_bytes
 case_i_answers = refl

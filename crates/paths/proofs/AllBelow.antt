@@ -15,7 +15,7 @@ pub all_below_fault : (n : ℕ) (test : ℕ → Bool) (i : ℕ) → i < n → te
 unfolding all_below
 all_below_fault n test i below h = ap not (some_below_at n (λ j. not (test j)) i below (ap not h))
 
-all_below_faulty : (n : ℕ) (test : ℕ → Bool) → all_below n test ≡ false → (i : ℕ) × (i < n) × (test i ≡ false)
+pub all_below_faulty : (n : ℕ) (test : ℕ → Bool) → all_below n test ≡ false → (i : ℕ) × (i < n) × (test i ≡ false)
 unfolding all_below
 all_below_faulty n test h =
     let x = some_below_true n (λ j. not (test j)) (not-false _ h) in

@@ -17,6 +17,9 @@ pub mod RangeLaws
 pub mod Blocks
 pub mod SplitLines
 pub mod LegalLines
+-- The lines passed by the check, in chains
+mod ChainLaws
+mod PassedLines
 -- The product and the sum along a path
 pub mod PathNumbers
 -- The search over the paths

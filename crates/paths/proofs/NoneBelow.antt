@@ -60,6 +60,3 @@ module _ {n : ℕ} {test : ℕ → Bool} {k : ℕ} (searched : NoneBelow n test 
       go (Some i) e =
           let s = smallest_some n test i e in
           absurd (true≢false (sym s.passes ∙ searched.gave i (lt_of_lt_of_le s.in_range past)))
-
-  pub none_passes : n ≤ k → some_below n test ≡ false
-  none_passes past = some_below_none n test (λ i below. searched.gave i (lt_of_lt_of_le below past))

@@ -74,7 +74,7 @@ pub carried_start : (rows : List ℕ) (L : ℕ) → Carried rows L 1 0 0
 unfolding product sum sum_from
 carried_start rows L = record { within = zero-le; product_is = refl; sum_is = refl }
 
-edges_below : (rows : List ℕ) → legal rows ≡ true → (L : ℕ) → L < 64 → EdgesBelow (path_at rows L)
+pub edges_below : (rows : List ℕ) → legal rows ≡ true → (L : ℕ) → L < 64 → EdgesBelow (path_at rows L)
 edges_below rows is_legal L below = path_edges_below (path_at rows L) (legal_in_range rows is_legal L below)
 
 -- the start of a line is below its period; of a closed line they are 0 and 1

@@ -1,3 +1,5 @@
 pub mod Rules
 pub mod Answers
 pub mod Checked
+pub mod Chains
+pub mod Passed

@@ -4,9 +4,9 @@
 use Rattle.std.specs.Prelude.{ℕ, zero, suc, ◌+◌, ◌*◌, ◌/◌, ◌%◌, Bool, true, false, not, ◌&&◌, List, [], ◌∷◌, ◌++◌, eqb, ltb, length, get_or, take, drop, if◌then◌else◌, Option, None, Some, option_map}
 use Rattle.tree.specs.declared.Row.{Row}
 use Rattle.tree.specs.Numbers.{divides}
-use Rattle.tree.specs.Search.{smallest, some_below, count_below}
+use Rattle.tree.specs.Search.{smallest, some_below, smaller_by, count_below}
 use Rattle.tree.specs.Tree.{row, product, sum, Place}
-use Rattle.tree.specs.Opening.{divisor, before}
+use Rattle.tree.specs.Opening.{divisor}
 use Rattle.tree.specs.Asking.{rows_11}
 use Rattle.tree.specs.Trial.{Trial}
 use Rattle.tree.specs.Record.{path_at, no_rows, numbers}
@@ -48,6 +48,10 @@ pub record Spot : Type 0 where
 unfoldable pub place_of : Spot → Place
 place_of s = record { level = s.level; offset = s.offset }
 
+-- the start r + i·m that it offers
+unfoldable pub spot_start : Spot → ℕ
+spot_start s = s.offset + s.class * s.step
+
 -- what the node of step m and offset r at level l of line M's path has to offer
 unfoldable pub spot_with : Family → ℕ → ℕ → ℕ → ℕ → ℕ → Option Spot
 spot_with family p M l m r =
@@ -57,15 +61,10 @@ spot_with family p M l m r =
 unfoldable pub spot_at : Family → ℕ → ℕ → ℕ → Option Spot
 spot_at family p M l = spot_with family p M l (product (take l (family M))) (sum (take l (family M)))
 
-unfoldable pub better_spot : Option Spot → Option Spot → Option Spot
-better_spot None b = b
-better_spot (Some a) None = Some a
-better_spot (Some a) (Some b) = if before (place_of b) (place_of a) then Some b else Some a
-
--- the best so far, and then the levels below n of line M's path
+-- the best so far, and then of the levels below n of line M's path: the smallest start, the first of equal ones
 unfoldable pub best_on_path : Family → ℕ → Option Spot → ℕ → ℕ → Option Spot
 best_on_path family p so_far M zero = so_far
-best_on_path family p so_far M (suc n) = better_spot (best_on_path family p so_far M n) (spot_at family p M n)
+best_on_path family p so_far M (suc n) = smaller_by spot_start (best_on_path family p so_far M n) (spot_at family p M n)
 
 -- the best over the lines below n
 unfoldable pub best_of_lines : Family → ℕ → ℕ → Option Spot
@@ -117,7 +116,7 @@ trial_at family p s =
     let ps = family s.line in
     let is_split = ltb s.divisor (row_of s.level ps).weight in
     record {
-      start = s.offset + s.class * s.step;
+      start = spot_start s;
       added = (if is_split then classes_taken family ps s.level s.divisor else 0) + own_nodes (p / (s.step * s.divisor));
       split = is_split;
     }

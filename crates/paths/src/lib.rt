@@ -3,13 +3,18 @@
 #![tactic(auto)]
 
 ghost use Rattle.std.specs.Prelude.{◌≡◌, true, ◌+◌, ◌<◌, ◌≤◌, length};
-ghost use Rattle.tree.specs.Record.{row_at, path_at, rest_unused, no_rows, parts, together, legal};
+ghost use Rattle.tree.specs.Record.{row_at, path_at, rest_unused, no_rows, parts, legal};
 ghost use Rattle.paths.specs.Rules.{same_node};
-ghost use Rattle.paths.specs.Answers.{lookup, rows_checked, path_checked, joins_earlier, line_legal};
+ghost use Rattle.paths.specs.Answers.{lookup, rows_checked, path_checked, line_legal};
+ghost use Rattle.paths.specs.Passed.{PassedBelow};
 
+use crate::chains::Chains;
+use crate::passed::{Passed, joins_passed};
 use tree::Row;
 use tree::line::Line;
 
+mod chains;
+mod passed;
 pub mod record;
 pub mod tree_record;
 
@@ -119,19 +124,6 @@ pub fn same_node(rows: &[u16; 1408], a: Line, b: Line, level: usize) -> bool
     true
 }
 
-// Two lines go together in one tree: one of them is closed, or their paths part.
-pub fn together(rows: &[u16; 1408], a: Line, b: Line) -> bool
-    ensures { result ≡ together (path_at rows.now a.number) (path_at rows.now b.number) }
-{
-    if is_closed(rows, a) {
-        return true;
-    }
-    if is_closed(rows, b) {
-        return true;
-    }
-    parts(rows, a, b)
-}
-
 // A path's rows are in range: each weight at least 2, each edge below its weight, the period at most 4,095.
 // The product is tested at each row, so that it never gets large.
 fn check_rows(rows: &[u16; 1408], line: Line) -> Option<usize>
@@ -208,24 +200,11 @@ fn closed_unused(rows: &[u16; 1408], line: Line) -> bool
     sum == 0
 }
 
-// A line goes together with each line of a smaller number.
-fn joins_earlier(rows: &[u16; 1408], line: Line) -> bool
-    ensures { result ≡ joins_earlier rows.now line.number }
-{
-    if is_closed(rows, line) {
-        return true;
-    }
-    for number in 0..line.number {
-        if !together(rows, Line { number }, line) {
-            return false;
-        }
-    }
-    true
-}
-
-// What the record says of one line is right, by itself and beside the lines of smaller numbers.
-fn line_legal(rows: &[u16; 1408], line: Line) -> bool
-    ensures { result ≡ line_legal rows.now line.number }
+// What the record says of one line is right, by itself and beside the lines passed; then it is one of them.
+fn line_legal(rows: &[u16; 1408], line: Line, passed: &mut Passed) -> bool
+    requires { PassedBelow rows.now line.number passed.old }
+    ensures answer { result ≡ line_legal rows.now line.number }
+    ensures passed { result ≡ true → PassedBelow rows.now (line.number + 1) passed.new }
 {
     if is_closed(rows, line) {
         return closed_unused(rows, line);
@@ -236,15 +215,19 @@ fn line_legal(rows: &[u16; 1408], line: Line) -> bool
     if !rest_unused(rows, line, count) {
         return false;
     }
-    joins_earlier(rows, line)
+    joins_passed(rows, line, passed)
 }
 
 // The record is a tree. Stops at the first line that is wrong.
 pub fn legal(rows: &[u16; 1408]) -> bool
     ensures { result ≡ legal rows.now }
 {
+    let mut passed = Passed {
+        root: 0,
+        chains: Chains::empty(),
+    };
     for number in 0..64 {
-        if !line_legal(rows, Line { number }) {
+        if !line_legal(rows, Line { number }, &mut passed) {
             return false;
         }
     }

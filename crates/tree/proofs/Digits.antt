@@ -20,7 +20,7 @@ pub digits_of : (n w : ℕ) → n % w + w * (n / w) ≡ n
 digits_of = mod-add-div
 
 -- numbers that are equal have the same digits
-digits_same : (w e s f t : ℕ) → e < w → f < w → e + w * s ≡ f + w * t → (e ≡ f) × (s ≡ t)
+pub digits_same : (w e s f t : ℕ) → e < w → f < w → e + w * s ≡ f + w * t → (e ≡ f) × (s ≡ t)
 digits_same w e s f t h k q = (cc (digit_low w e s h, digit_low w f t k), cc (digit_high w e s h, digit_high w f t k))
 
 -- n leaves e + w * s modulo w * p exactly when it leaves e modulo w and its quotient leaves s modulo p

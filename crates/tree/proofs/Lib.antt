@@ -14,10 +14,11 @@ pub mod Standing
 pub mod Ownership
 pub mod LedRounds
 -- Opening
-pub mod PlaceOrder
 pub mod Picking
-pub mod ChosenCandidate
 pub mod Classes
+pub mod CandidatePlaces
+pub mod StartsDiffer
+pub mod ChosenCandidate
 pub mod Split
 pub mod Booking
 pub mod BookingAt

@@ -1,8 +1,7 @@
 -- What a line's number of any size says of the line that was asked for.
 -- Assumes nothing.
 use Prim.Native.Nat.{ℕ, ◌<◌}
-use native.Mathlib.Omega.{arith}
-use mathlib.Core.Path.{◌≡◌, refl}
+use mathlib.Core.Path.{◌≡◌}
 use Rattle.std.specs.Prelude.{Ok, Err}
 use borrow.Author.Tests.{ltb-true}
 use Rattle.tree.specs.declared.line.Line.{Line}

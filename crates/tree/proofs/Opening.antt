@@ -13,7 +13,7 @@ use borrow.Author.Tests.{not-false}
 use Rattle.tree.specs.Tree.{Tree, nothing, line, node, present, is_open, Place, at_digits, at, way, step}
 use Rattle.tree.specs.Standing.{Stands}
 use Rattle.tree.specs.Shape.{LegalUnder, Alone, Legal}
-use Rattle.tree.specs.Opening.{divisor, candidate_at, put, one_edge, book_by_digits, class_at, book_into, chosen, opened, start_in, start_given}
+use Rattle.tree.specs.Opening.{divisor, candidate_at, class_at, start_at, put, one_edge, book_by_digits, book_into, chosen, opened, start_in, start_given}
 use Rattle.tree.proofs.Searching.{found_some}
 use Rattle.tree.proofs.Put.{put_each, one_edge_stands, stands_one_edge}
 use Rattle.tree.proofs.Proper.{Proper, one_edge_edges, legal_proper}
@@ -90,7 +90,7 @@ record Booked (L p : ℕ) (t : Tree) : Type 0 where
   pub start : start_given p t ≡ place.offset + class_at p t place * steps place.level place.offset t
 
 booked_in : (L p : ℕ) (t : Tree) → MayOpen L p t → present t ≡ true → Booked L p t
-unfolding opened book_into start_given start_in step way
+unfolding opened book_into start_given start_in start_at step way
 booked_in L p t may here =
     let x = room_chosen p t here may.has_room in
     record {

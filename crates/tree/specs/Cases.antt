@@ -1,4 +1,4 @@
--- The joint table: document 01's marked cases A to I, without the printing, as calls with the answers that it marks; then nine cases of our own.
+-- The joint table: document 01's marked cases A to I, case C as document 02's Ask 6 has it, without the printing, as calls with the answers that it marks; then ten cases of our own.
 -- Each case begins at the empty plan. The one proof over the whole table is in proofs/JointTable.antt.
 -- Assumes nothing.
 use Rattle.std.specs.Prelude.{ℕ, Bool, true, false, List, [], ◌∷◌, ◌++◌, length, take, replicate}
@@ -94,7 +94,7 @@ unfoldable pub case_B : List Step
 case_B = opens 1 4 (booked 0) ∷ opens 2 4 (booked 1) ∷ opens 3 2 (refused 5) ∷ []
 
 unfoldable pub case_C : List Step
-case_C = opens 1 6 (booked 0) ∷ opens 2 12 (booked 1) ∷ opens 3 12 (booked 7) ∷ []
+case_C = opens 1 6 (booked 0) ∷ opens 2 12 (booked 1) ∷ opens 3 12 (booked 2) ∷ []
 
 unfoldable pub case_D : List Step
 case_D = opens 1 1 (booked 0) ∷ opens 2 1 (refused 5) ∷ opens 2 4095 (refused 5) ∷ []
@@ -132,6 +132,21 @@ case_I =
     ∷ closes 2 done
     ∷ opens 3 3 (refused 5)
     ∷ closes 2 (refused 4)
+    ∷ []
+
+-- ours: the smallest start is taken, at any level. With lines 1 and 3 gone, the root offers 3, the node at offset 1 offers 1, and the one at offset 2 offers 6.
+unfoldable pub earliest_start : List Step
+earliest_start =
+    opens 0 4 (booked 0)
+    ∷ opens 1 8 (booked 1)
+    ∷ opens 2 8 (booked 2)
+    ∷ opens 3 8 (booked 3)
+    ∷ opens 4 8 (booked 5)
+    ∷ closes 1 done
+    ∷ closes 3 done
+    ∷ opens 5 8 (booked 1)
+    ∷ opens 6 8 (booked 3)
+    ∷ opens 7 8 (booked 6)
     ∷ []
 
 -- ours: a split moves no start, also where the edge that goes under the new node is not 0
@@ -282,6 +297,7 @@ cases =
     ∷ case_G
     ∷ case_H
     ∷ case_I
+    ∷ earliest_start
     ∷ split_keeps_starts
     ∷ emptied_is_fresh
     ∷ checks_in_sequence

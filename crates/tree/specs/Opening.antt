@@ -1,8 +1,8 @@
--- Opening a line (document 01, Opening a line).
+-- Opening a line (document 01, Opening a line; which candidate is chosen by document 02, Ask 6).
 -- Assumes nothing.
-use Rattle.std.specs.Prelude.{ℕ, zero, suc, ◌+◌, ◌*◌, ◌/◌, ◌%◌, ◌≡◌, Bool, true, false, not, ◌&&◌, eqb, ltb, if◌then◌else◌, Option, None, Some, option_map, unwrap_or}
+use Rattle.std.specs.Prelude.{ℕ, zero, suc, ◌+◌, ◌*◌, ◌/◌, ◌%◌, ◌≤◌, ◌≡◌, Bool, true, false, not, ◌&&◌, eqb, ltb, if◌then◌else◌, Option, None, Some, option_map, unwrap_or}
 use Rattle.tree.specs.Numbers.{divides, gcd}
-use Rattle.tree.specs.Search.{found, smallest, some_below}
+use Rattle.tree.specs.Search.{found, smallest, some_below, smaller_by, smallest_by}
 use Rattle.tree.specs.Tree.{Tree, nothing, line, node, present, Place, at, step}
 
 -- Candidates
@@ -35,41 +35,36 @@ NoCandidate p t = (a : Place) → candidate_at p t a ≡ false
 
 -- The chosen candidate
 
--- (Opening a line, 4) Of two candidates the one of larger level is taken, then the one of smaller offset.
-unfoldable pub before : Place → Place → Bool
-before a b =
-    if eqb a.level b.level then ltb a.offset b.offset else ltb b.level a.level
+-- (Opening a line, 5) The class taken in the node at a place.
+unfoldable pub class_at : ℕ → Tree → Place → ℕ
+class_at p t a = unwrap_or (free_class p (step a t) (at a t)) 0
 
--- the one chosen, said of every level and offset: it is a candidate, and no candidate comes before it
+-- (Opening a line, 8) The start r + i·m that the candidate at a place offers.
+unfoldable pub start_at : ℕ → Tree → Place → ℕ
+start_at p t a = a.offset + class_at p t a * step a t
+
+-- (Ask 6, 2) The one chosen, said of every level and offset: it is a candidate, and no candidate's start would be smaller.
 pub record IsChosen (p : ℕ) (t : Tree) (a : Place) : Type 0 where
   pub is_candidate : candidate_at p t a ≡ true
-  pub none_before : (b : Place) → candidate_at p t b ≡ true → before b a ≡ false
-
-unfoldable pub better : Option Place → Option Place → Option Place
-better None b = b
-better (Some a) None = Some a
-better (Some a) (Some b) = if before b a then Some b else Some a
-
--- the best of what the edges below n have to offer
-unfoldable pub best_below : ℕ → (ℕ → Option Place) → Option Place
-best_below zero offer = None
-best_below (suc n) offer = better (best_below n offer) (offer n)
+  pub smallest_start : (b : Place) → candidate_at p t b ≡ true → start_at p t a ≤ start_at p t b
 
 -- a place that is counted from edge e of a node of weight w, counted from that node
 unfoldable pub under : ℕ → ℕ → Place → Place
 under w e a = record { level = suc a.level; offset = e + w * a.offset }
 
--- the best candidate of a tree whose root has step m
-unfoldable pub best : ℕ → ℕ → Tree → Option Place
-best p m nothing = None
-best p m (line n) = None
-best p m (node w f) =
-    better (if candidate p m (node w f) then Some (record { level = 0; offset = 0 }) else None)
-    (best_below w (λ e. option_map (under w e) (best p (m * w) (f e))))
+-- Of the candidates in a tree whose root has step m, the place with the smallest key. Under an edge a place is counted from there,
+-- and its key is that of the place counted from the root.
+unfoldable pub best : (Place → ℕ) → ℕ → ℕ → Tree → Option Place
+best key p m nothing = None
+best key p m (line n) = None
+best key p m (node w f) =
+    smaller_by key (if candidate p m (node w f) then Some (record { level = 0; offset = 0 }) else None)
+    (smallest_by key w (λ e. option_map (under w e) (best (λ a. key (under w e a)) p (m * w) (f e))))
 
--- (Opening a line, 4) The chosen candidate, as the search finds it.
+-- (Ask 6, 2) The chosen candidate, as the search finds it: of all levels, the one of smallest start. It is the one of `IsChosen`, by
+-- `chosen_is_chosen`.
 unfoldable pub chosen : ℕ → Tree → Option Place
-chosen p t = best p 1 t
+chosen p t = best (start_at p t) p 1 t
 
 -- The booking
 
@@ -107,10 +102,6 @@ book_by_digits L p i m zero r (node w f) = booking L p m w f i
 book_by_digits L p i m (suc l) r (node w f) =
     node w (put (r % w) (book_by_digits L p i (m * w) l (r / w) (f (r % w))) f)
 
--- (Opening a line, 5) The class taken in the node at a place.
-unfoldable pub class_at : ℕ → Tree → Place → ℕ
-class_at p t a = unwrap_or (free_class p (step a t) (at a t)) 0
-
 -- the tree with the line booked into the chosen candidate
 unfoldable pub book_into : ℕ → ℕ → Tree → Option Place → Tree
 book_into L p t None = t
@@ -120,10 +111,10 @@ book_into L p t (Some a) = book_by_digits L p (class_at p t a) 1 a.level a.offse
 unfoldable pub opened : ℕ → ℕ → Tree → Tree
 opened L p t = if present t then book_into L p t (chosen p t) else one_edge p (line L)
 
--- (Opening a line, 8) The start r + i·m in the chosen candidate. Where there is none the open is refused with 5, and the 0 is answered to nobody.
+-- (Opening a line, 8) The start in the chosen candidate. Where there is none the open is refused with 5, and the 0 is answered to nobody.
 unfoldable pub start_in : ℕ → Tree → Option Place → ℕ
 start_in p t None = 0
-start_in p t (Some a) = a.offset + class_at p t a * step a t
+start_in p t (Some a) = start_at p t a
 
 -- (Opening a line, 1, 8) The start answered: 0 in the empty plan, in any other that of the chosen candidate.
 unfoldable pub start_given : ℕ → Tree → ℕ

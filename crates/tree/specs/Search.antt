@@ -1,6 +1,6 @@
 -- Searches, lists and sums below a bound, from 0 upward.
 -- Assumes nothing.
-use Rattle.std.specs.Prelude.{ℕ, zero, suc, ◌+◌, Bool, true, false, not, List, [], ◌∷◌, ◌++◌, if◌then◌else◌, Option, None, Some}
+use Rattle.std.specs.Prelude.{ℕ, zero, suc, ◌+◌, Bool, true, false, not, List, [], ◌∷◌, ◌++◌, ltb, if◌then◌else◌, Option, None, Some}
 
 module _ {A : Type 0} where
   unfoldable pub found : Option A → Bool
@@ -16,6 +16,17 @@ module _ {A : Type 0} where
   unfoldable pub first : ℕ → (ℕ → Option A) → Option A
   first zero offer = None
   first (suc n) offer = or_else (first n offer) (offer n)
+
+  -- of two the one with the smaller key, the first where the keys are equal
+  unfoldable pub smaller_by : (A → ℕ) → Option A → Option A → Option A
+  smaller_by key None b = b
+  smaller_by key (Some a) None = Some a
+  smaller_by key (Some a) (Some b) = if ltb (key b) (key a) then Some b else Some a
+
+  -- of all that the numbers below n have to offer, the one with the smallest key, the first of equal ones
+  unfoldable pub smallest_by : (A → ℕ) → ℕ → (ℕ → Option A) → Option A
+  smallest_by key zero offer = None
+  smallest_by key (suc n) offer = smaller_by key (smallest_by key n offer) (offer n)
 
   -- what each number below n has, in a list
   unfoldable pub each_below : ℕ → (ℕ → A) → List A

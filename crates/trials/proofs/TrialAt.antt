@@ -12,7 +12,7 @@ use lib.ListN.{length}
 use Rattle.tree.specs.declared.Row.{Row}
 use Rattle.tree.specs.Trial.{Trial}
 use Rattle.tree.specs.Record.{row_at, path_at}
-use Rattle.paths.specs.Rules.{Family, class_taken, classes_taken, own_nodes, Spot, trial_at}
+use Rattle.paths.specs.Rules.{Family, class_taken, classes_taken, own_nodes, Spot, spot_start, trial_at}
 use Rattle.tree.proofs.Totals.{count_at_most}
 use Rattle.paths.proofs.PathRows.{weight_read}
 
@@ -51,9 +51,9 @@ module _ (rows : List ℕ) (p : ℕ) (s : Spot) (below : s.level < length (path_
   told added = record { start = start; added = added; split = ltb s.divisor w }
 
   pub told_whole : ltb s.divisor w ≡ false → told own ≡ trial_at (path_at rows) p s
-  unfolding trial_at
+  unfolding trial_at spot_start
   told_whole large = rw (weight_read rows s.line below read, large, start_is, own_is, zero-add)
 
   pub told_split : ltb s.divisor w ≡ true → {groups : ℕ} → groups ≡ classes_taken (path_at rows) (path_at rows s.line) s.level s.divisor → told (groups + own) ≡ trial_at (path_at rows) p s
-  unfolding trial_at
+  unfolding trial_at spot_start
   told_split small groups_are = rw (weight_read rows s.line below read, small, start_is, own_is, groups_are)

@@ -1,7 +1,6 @@
 -- The ways that a trial can go on a legal record, by what the checks and the search of the open find.
 -- Assumes nothing.
 use Prim.Native.Nat.{ℕ}
-use native.Mathlib.Omega.{arith}
 use mathlib.Core.Path.{◌≡◌, sym, ◌∙◌, ap}
 use mathlib.Core.Bool.{false}
 use mathlib.Core.List.{List}
@@ -19,7 +18,7 @@ use Rattle.bridge.proofs.CallsOnRecords.{first_not_refused, not_refused}
 use Rattle.bridge.proofs.TrialOnPaths.{trial_at_is}
 use Rattle.candidates.specs.Edges.{ClosedFrom}
 use Rattle.lines.specs.Bookable.{Bookable, BookableAt}
-use Rattle.lines.proofs.OpenLine.{all_closed, found_spot, may_open_at, product_fits, product_not_zero, start_fits, spot_splittable}
+use Rattle.lines.proofs.OpenLine.{all_closed, found_spot, may_open_at, product_fits, product_not_zero, spot_splittable}
 use Rattle.trials.specs.Tryable.{Tryable}
 
 module _ (rows : List ℕ) (L p : ℕ) where
@@ -48,7 +47,6 @@ module _ (rows : List ℕ) (L p : ℕ) where
         let node_of_spot = spot_splittable rows L p s ready_at long in
         record {
           on_path = node_of_spot.on_path;
-          start_in_range = omega (arith, start_fits rows L p s ready_at long);
           product_positive = product_not_zero rows L p s ready_at long;
           product_in_range = product_fits rows L p s ready_at long;
         }

@@ -11,7 +11,8 @@ ghost use Rattle.bridge.specs.Rows.{tree_of_rows};
 ghost use Rattle.trials.specs.Answers.{trial_told};
 ghost use Rattle.trials.specs.Tryable.{Tryable};
 
-use candidates::{Spot, edges};
+use candidates::edges;
+use candidates::spot::Spot;
 use paths::record::TreeRecord;
 use paths::{edge, same_node, weight};
 use tree::line::Line;

@@ -1,12 +1,12 @@
-//! Plans of which each line's period and start are worked out from document 01.
+//! Plans of which each line's period and start are worked out from documents 01 and 02.
 
 use gaplinte::{Line, Period, Plan, Start};
 
 /// Period and start of the lines of marked case A.
 pub const CASE_A: [(u64, u64); 4] = [(4, 0), (6, 1), (8, 2), (12, 3)];
 
-/// Those of marked case C.
-pub const CASE_C: [(u64, u64); 3] = [(6, 0), (12, 1), (12, 7)];
+/// Those of marked case C, as in document 02, Ask 6.
+pub const CASE_C: [(u64, u64); 3] = [(6, 0), (12, 1), (12, 2)];
 
 /// Those of marked case F.
 pub fn case_f() -> Vec<(u64, u64)> {

@@ -1,32 +1,29 @@
--- `candidates::better` meets its contract: a node that does not come first, whose step does not divide or that was seen earlier has nothing better to offer; any other is searched.
+-- `candidates::better` meets its contract: what starts too late is no better, and any other offer is.
 -- Assumes nothing.
+use native.Mathlib.Omega.{arith}
 use mathlib.Core.Path.{sym}
-use borrow.Author.Tests.{eq-eqb}
-use Rattle.tree.specs.Numbers.{divides}
+use Rattle.candidates.proofs.NodeNumbers.{offset_and_step, past_edge_0}
+use Rattle.candidates.proofs.NothingBetter.{none_no_better, starts_by_no_better, offer_no_better, offer_better}
 use Rattle.paths.proofs.PathRows.{within_path}
-use Rattle.candidates.proofs.SeenEarlier.{seen_no_better}
-use Rattle.candidates.proofs.BetterOffer.{not_first, not_dividing, first_offer}
-use Rattle.candidates.proofs.BestOnPath.{step_positive}
+use Rattle.paths.specs.Rules.{spot_start}
 use Rattle.candidates.proofs.better.Goals as goal
 
-pub returns-then-not-comes_first : goal.returns-then-not-comes_first
-returns-then-not-comes_first c = not_first _ c.requires.reached (sym c.if-not-comes_first.ensures)
+pub edge-edge-requires : goal.edge-edge-requires
+edge-edge-requires c = omega (arith, within_path _ _ c.requires.node_of.on_path)
 
-pub nonzero_rem-period : goal.nonzero_rem-period
-nonzero_rem-period c = step_positive _ c.requires.reached c.args.lines.record.is_legal c.args.node.line.below_64
+pub overflow_add-node : goal.overflow_add-node
+overflow_add-node c = omega (arith, offset_and_step _ c.requires.node_of c.args.lines.record.is_legal c.args.node.line.below_64)
 
-pub returns-then-period-node-ne0 : goal.returns-then-period-node-ne0
-returns-then-period-node-ne0 c = not_dividing _ c.requires.reached c.if-period-node-ne0.true
+pub returns-then-starts_by : goal.returns-then-starts_by
+returns-then-starts_by c = sym (starts_by_no_better _ _ (sym c.if-starts_by.ensures) _ (past_edge_0 _ c.requires.node_of c.args.node.line.below_64 _ c.edge-edge.ensures c.if-edge-eq0.true))
 
-pub seen_earlier-requires : goal.seen_earlier-requires
-seen_earlier-requires c = within_path _ _ c.requires.on_path
+pub returns-in_default : goal.returns-in_default
+returns-in_default c = rw (← c.in_default.ensures) (sym (none_no_better _))
 
-pub returns-then-seen_earlier : goal.returns-then-seen_earlier
-returns-then-seen_earlier c = sym (seen_no_better _ _ _ _ c.args.lines.record.is_legal c.args.node.line.below_64 c.requires.reached (sym c.if-seen_earlier.ensures))
-
-pub spot_at-requires-clause-step_divides : goal.spot_at-requires-clause-step_divides
-unfolding divides
-spot_at-requires-clause-step_divides c = (step_positive _ c.requires.reached c.args.lines.record.is_legal c.args.node.line.below_64, eq-eqb _ _ c.if-period-node-ne0.false)
+pub returns-then-starts_by-2 : goal.returns-then-starts_by-2
+unfolding spot_start
+returns-then-starts_by-2 c = rw (← c.in-Some.ensures) (sym (offer_no_better _ _ c.start.ensures (sym c.if-starts_by-2.ensures)))
 
 pub returns : goal.returns
-returns c = rw c.or.ensures (first_offer _ c.requires.reached (sym c.if-not-comes_first.ensures) _ c.spot_at.ensures)
+unfolding spot_start
+returns c = rw (← c.in-Some.ensures) (sym (offer_better _ _ c.start.ensures (sym c.if-starts_by-2.ensures)))

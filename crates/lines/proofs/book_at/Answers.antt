@@ -2,12 +2,10 @@
 -- Assumes nothing.
 use native.Mathlib.Omega.{arith}
 use mathlib.Core.Path.{refl}
+use Rattle.paths.specs.Rules.{spot_start}
 use Rattle.bridge.proofs.CallsOnRecords.{open_booked_on}
-use Rattle.lines.proofs.OpenLine.{product_fits, product_not_zero, start_fits, spot_splittable, spot_placeable, placed_is_booked}
+use Rattle.lines.proofs.OpenLine.{product_fits, product_not_zero, spot_splittable, spot_placeable, placed_is_booked}
 use Rattle.lines.proofs.book_at.Goals as goal
-
-pub start-requires : goal.start-requires
-start-requires c = omega (arith, start_fits _ _ _ _ c.requires c.told-rows)
 
 pub overflow_mul-quotient : goal.overflow_mul-quotient
 overflow_mul-quotient c = omega (arith, product_fits _ _ _ _ c.requires c.told-rows)
@@ -22,6 +20,7 @@ pub place_line-requires : goal.place_line-requires
 place_line-requires c = rw c.split_if_smaller.ensures (spot_placeable _ _ _ _ c.requires c.told-rows _ refl)
 
 pub returns : goal.returns
+unfolding spot_start
 returns c =
     let ready = c.requires.bookable in
     rw (c.place_line.ensures, c.split_if_smaller.ensures, placed_is_booked _ _ _ _ c.requires c.told-rows _ refl)

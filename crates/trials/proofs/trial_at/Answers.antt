@@ -8,9 +8,6 @@ use Rattle.paths.proofs.PathRows.{within_path}
 use Rattle.trials.proofs.TrialAt.{below_65536, divisor_positive, divisor_at_most, told_whole, told_split, classes_at_most, own_at_most}
 use Rattle.trials.proofs.trial_at.Goals as goal
 
-pub start-start-requires : goal.start-start-requires
-start-start-requires c = omega (arith, c.requires.start_in_range)
-
 pub overflow_mul-node : goal.overflow_mul-node
 overflow_mul-node c = Fits-under w16 _ _ (below_65536 _ (omega (arith, c.requires.product_in_range))) tt
 
