@@ -1,5 +1,6 @@
 /* Marked case A of document 01: periods 4, 6 and 8, then 2, which is refused with 5, then 12. The 6 and the 12 are tried
- * first. Prints what the library answers; exits with 1 where that differs from documents 01 and 02. */
+ * first, and after the refusal each class of each node is asked for its reason. Prints what the library answers; exits
+ * with 1 where that differs from documents 01 and 02. */
 #include <inttypes.h>
 #include <stdio.h>
 
@@ -29,6 +30,18 @@ static void tell(uint64_t line, uint64_t period, int start, int added, int split
     if (answer != 0 || tried.start != start || tried.added != added || tried.split != split) differences++;
 }
 
+/* Tells what keeps a period from a class of the node at a level and an offset. */
+static void explain(uint64_t period, uint64_t level, uint64_t offset, uint64_t edge_class, int64_t expected) {
+    int64_t reason = gaplinte_reason(&plan, period, level, offset, edge_class);
+    printf("period %" PRIu64 ", level %" PRIu64 ", offset %" PRIu64 ", class %" PRIu64 ": ", period, level, offset,
+           edge_class);
+    if (gaplinte_step_does_not_divide(reason))
+        printf("the node's step does not divide the period\n");
+    else
+        printf("line %" PRId64 " stands in the class\n", reason);
+    if (reason != expected) differences++;
+}
+
 static void ask(uint64_t round, int64_t expected) {
     int64_t owner = gaplinte_owner(&plan, round);
     if (gaplinte_is_idle(owner))
@@ -44,6 +57,11 @@ int main(void) {
     book(2, 6, 1);
     book(3, 8, 2);
     book(4, 2, -GAPLINTE_NO_CANDIDATE);
+    explain(2, 0, 0, 0, 1);
+    explain(2, 0, 0, 1, 2);
+    explain(2, 1, 0, 0, 1);
+    explain(2, 1, 1, 0, 2);
+    explain(2, 2, 2, 0, GAPLINTE_STEP_DOES_NOT_DIVIDE);
     tell(4, 12, 3, 1, 0);
     book(4, 12, 3);
     ask(7, 2);

@@ -1,5 +1,6 @@
-"""Marked case A of document 01: periods 4, 6 and 8, then 2, which is refused with 5, then 12. The 6 and the 12 are tried
-first. Prints what the library answers; exits with 1 where that differs from documents 01 and 02."""
+"""Marked case A of document 01: periods 4, 6 and 8, then 2, which is refused with 5, then 12. The 6 and the 12 are
+tried first, and after the refusal each class of each node is asked for its reason. Prints what the library answers;
+exits with 1 where that differs from documents 01 and 02."""
 
 import pathlib
 import sys
@@ -28,6 +29,13 @@ def tell(plan, line, period):
     return told
 
 
+def explain(plan, period, level, offset, edge_class):
+    """Gives the line that keeps a period from a class of a node, or None where the node's step does not divide it."""
+    reason = plan.reason(period, level, offset, edge_class)
+    print(f"period {period}, level {level}, offset {offset}, class {edge_class}: {reason}")
+    return reason.line
+
+
 def ask(plan, round):
     """Gives the owner of a round."""
     owner = plan.owner(round)
@@ -46,12 +54,14 @@ def main():
         book(plan, 2, 6),
         book(plan, 3, 8),
         book(plan, 4, 2),
-        tell(plan, 4, 12),
-        book(plan, 4, 12),
     ]
+    classes = [(0, 0, 0), (0, 0, 1), (1, 0, 0), (1, 1, 0), (2, 2, 0)]
+    reasons = [explain(plan, 2, *asked) for asked in classes]
+    answers += [tell(plan, 4, 12), book(plan, 4, 12)]
     owners = [ask(plan, round) for round in (7, 9, 10)]
     expected = [0, (1, 2, True), 1, 2, "refused with 5", (3, 1, False), 3]
-    return 0 if answers == expected and owners == [(2, None), (None, 1), (3, None)] else 1
+    as_expected = answers == expected and reasons == [1, 2, 1, 2, None]
+    return 0 if as_expected and owners == [(2, None), (None, 1), (3, None)] else 1
 
 
 if __name__ == "__main__":

@@ -1,6 +1,6 @@
 /* Gaplinte: a plan of rounds for one recorder. The calls of the proved library, for C99 and C++.
  *
- * Answers. Each call answers one number: its value, 0 or more, or minus the number of a refusal, -1 to -9. A refusal
+ * Answers. Each call answers one number: its value, 0 or more, or minus the number of a refusal, -1 to -12. A refusal
  * stays negative where it is kept in a narrower signed type. A refused call leaves all that it was lent as found.
  *
  * The plan. The caller keeps it and lends it to the calls. For each line it has 11 rows of weight and edge: the nodes
@@ -9,9 +9,15 @@
  * empty plan: `gaplinte_plan plan = {0};` in C, `gaplinte_plan plan{};` in C++. The numbers are in the machine's byte
  * order, so a stored plan is for machines of one byte order.
  *
+ * Nodes. The node of row k of a path has level k, so that the root has level 0. Its step is the product of the weights
+ * above it, 1 for the root, and its offset is the sum of the edges above it, each times the step of the node that it
+ * belongs to. For a period that the step divides, d is the greatest common divisor of the node's weight and the period
+ * divided by the step: the classes are 0 to d - 1, and an edge is of the class that it leaves when it is divided by d.
+ *
  * A plan that is no tree (damaged, say, or never written) is treated by each call as the empty plan: owner and the
- * walker answer idle with rest 0, show, turns and close refuse with 4, in a sheet all rounds are idle, a trial tells
- * what an open in the empty plan would do, and an open that is not refused replaces it. gaplinte_is_tree tells.
+ * walker answer idle with rest 0, show, turns and close refuse with 4, reason refuses with 10, in a sheet all rounds
+ * are idle, a trial tells what an open in the empty plan would do, and an open that is not refused replaces it.
+ * gaplinte_is_tree tells.
  *
  * Threads. The library keeps nothing between calls and has no global data, so calls on different records may run in
  * different threads. While one thread changes a record, no other may use it.
@@ -32,6 +38,8 @@
 #define GAPLINTE_IDLE_FROM 64
 /* The longest rest; that of an empty plan is 0, and any other is 1 or more. */
 #define GAPLINTE_LONGEST_REST 4094
+/* A value of reason that is no line: the node's step does not divide the period. */
+#define GAPLINTE_STEP_DOES_NOT_DIVIDE 64
 /* The longest period; the shortest is 1. */
 #define GAPLINTE_LONGEST_PERIOD 4095
 /* The rows of a path, used or not. */
@@ -57,6 +65,9 @@
 #define GAPLINTE_LIST_LENGTH 7
 #define GAPLINTE_ANSWERS_TOO_SHORT 8
 #define GAPLINTE_WALKER_AT_END 9
+#define GAPLINTE_NO_NODE 10
+#define GAPLINTE_NO_CLASS 11
+#define GAPLINTE_NO_LINE_IN_CLASS 12
 
 /* So that compilers warn where an answer is thrown away, and a refusal with it. */
 #if defined(__cplusplus) && __cplusplus >= 201703L
@@ -159,6 +170,9 @@ static inline const char *gaplinte_refusal_text(int64_t answer) {
         case -GAPLINTE_LIST_LENGTH: return "the list is longer than 65535 bytes or ends inside an order";
         case -GAPLINTE_ANSWERS_TOO_SHORT: return "the buffer has fewer than two bytes for each order";
         case -GAPLINTE_WALKER_AT_END: return "the walker's next round or count is 2^64 - 1";
+        case -GAPLINTE_NO_NODE: return "no node has this level and offset";
+        case -GAPLINTE_NO_CLASS: return "the node has no such class for the period";
+        case -GAPLINTE_NO_LINE_IN_CLASS: return "no line stands in the class";
         default: return "no call is refused so";
     }
 }
@@ -171,6 +185,12 @@ static inline int gaplinte_is_idle(int64_t owner) {
 /* The rest that a value of owner or of the walker has, or 0 where it does not say that the round is idle. */
 static inline unsigned gaplinte_rest(int64_t owner) {
     return gaplinte_is_idle(owner) ? (unsigned)(owner - GAPLINTE_IDLE_FROM) : 0;
+}
+
+/* Whether a value of reason says that the node's step does not divide the period. Not where it is a line or a
+ * refusal. */
+static inline int gaplinte_step_does_not_divide(int64_t reason) {
+    return reason == GAPLINTE_STEP_DOES_NOT_DIVIDE;
 }
 
 /* The turns of all lines and the idle rounds of a sheet, added up: the number of rounds that it was asked for. */
@@ -188,6 +208,15 @@ GAPLINTE_NODISCARD int64_t gaplinte_open(gaplinte_plan *plan, uint64_t line, uin
  * Refused with 1, 2, 3 or 5, as the open would be. */
 GAPLINTE_NODISCARD int64_t gaplinte_trial(const gaplinte_plan *plan, uint64_t line, uint64_t period,
                                           gaplinte_tried *tried);
+
+/* The reason behind a refusal with 5: what keeps a period from a class of the node at a level and an offset. The value
+ * is the open line of lowest number that stands, at any depth, under an edge of the class. Where the node's step does
+ * not divide the period it is GAPLINTE_STEP_DOES_NOT_DIVIDE, and the class is not looked at. Refused with 2, with 10
+ * where no node has this level and offset, with 11 where the class is not below d, or with 12 where no line stands in
+ * the class: the first that applies. On a plan with an open line, an open that passes 1, 2 and 3 is refused with 5 if
+ * and only if this call, asked of every level, offset and class, is never refused with 12. */
+GAPLINTE_NODISCARD int64_t gaplinte_reason(const gaplinte_plan *plan, uint64_t period, uint64_t level, uint64_t offset,
+                                           uint64_t edge_class);
 
 /* Closes a line. The value is 0. Refused with 1 or 4. */
 GAPLINTE_NODISCARD int64_t gaplinte_close(gaplinte_plan *plan, uint64_t line);

@@ -1,5 +1,6 @@
-//! Both give the same answers and leave the same records and bytes, on generated calls, sheets and lists.
+//! Both give the same answers and leave the same records and bytes, on generated calls, sheets, reasons and lists.
 
+mod reasons;
 mod sheets;
 
 use crate::inputs::{
@@ -220,6 +221,8 @@ pub fn compare_answers(folder: &Path) {
     compare_measured_rounds();
     sheets::compare_sheets();
     sheets::compare_measured_sheets();
+    reasons::compare_reasons();
+    reasons::compare_measured_reasons();
     compare_lists();
     compare_programs(folder);
 }

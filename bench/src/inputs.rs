@@ -53,12 +53,14 @@ pub fn rounds_where(rows: &Record, owned: bool, count: usize) -> Vec<u64> {
     rounds.take(count).collect()
 }
 
-fn lines_where(rows: &Record, open: bool) -> Vec<u8> {
+/// The lines that are open, or else closed.
+pub fn lines_where(rows: &Record, open: bool) -> Vec<u8> {
     let is_open = |line: u8| rows[22 * usize::from(line)] != 0;
     (0..64).filter(|&line| is_open(line) == open).collect()
 }
 
-fn one_of(lines: &[u8], numbers: &mut Numbers) -> Option<u8> {
+/// One of these lines, where there is one.
+pub fn one_of(lines: &[u8], numbers: &mut Numbers) -> Option<u8> {
     match lines.len() {
         0 => None,
         count => Some(lines[numbers.below(count as u64) as usize]),

@@ -10,6 +10,7 @@ mod numbers;
 mod plain;
 mod programs;
 mod pruning;
+mod questions;
 mod trials;
 
 const RECORD: usize = 1408;
@@ -28,6 +29,7 @@ struct Calls {
     close: fn(&mut Record, u64) -> i64,
     owner: fn(&Record, u64) -> i64,
     sheet: fn(&Record, u64, u16, &mut Sheet) -> i64,
+    reason: fn(&Record, u64, u64, u64, u64) -> i64,
     run_list: fn(&mut Record, &[u8], &mut [u8]) -> i64,
 }
 
@@ -36,6 +38,7 @@ const LIBRARY: Calls = Calls {
     close: raw::close,
     owner: raw::owner,
     sheet: raw::sheet,
+    reason: raw::reason,
     run_list: raw::run_list,
 };
 const PLAIN: Calls = Calls {
@@ -43,6 +46,7 @@ const PLAIN: Calls = Calls {
     close: plain::close,
     owner: plain::owner,
     sheet: plain::sheet,
+    reason: plain::reason::reason,
     run_list: plain::run_list,
 };
 

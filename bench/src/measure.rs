@@ -4,6 +4,7 @@ use crate::inputs::{
     deep_plan_of, list_of, plan_of, plan_of_powers, rounds_under_11_nodes, rounds_where, ORDERS,
 };
 use crate::programs::programs;
+use crate::questions::questions;
 use crate::{Calls, Record, LIBRARY, PLAIN, RECORD, SHEET};
 use std::hint::black_box;
 use std::io::Write;
@@ -12,6 +13,9 @@ use std::time::Instant;
 
 /// The numbers of lines that are measured.
 pub const LINES: [usize; 3] = [1, 16, 64];
+
+/// The same, of a deep plan, which has two and more.
+pub const DEEP_LINES: [usize; 2] = [16, 64];
 
 /// How many calls are timed together, where one is short.
 pub const TOGETHER: usize = 100;
@@ -63,6 +67,26 @@ fn sheet(calls: Calls, lines: usize) -> Task {
     })
 }
 
+/// Reasons for the fixed set of questions of a plan, which have each outcome in its turn.
+fn reasons_of(calls: Calls, rows: Record) -> Task {
+    let questions = questions(&rows, TOGETHER);
+    Box::new(move || {
+        for &question in &questions {
+            black_box(black_box(question).ask(calls, black_box(&rows)));
+        }
+    })
+}
+
+/// Reasons in a plan of so many lines.
+fn reasons(calls: Calls, lines: usize) -> Task {
+    reasons_of(calls, plan_of(lines as u64))
+}
+
+/// The same in a plan with nodes below nodes.
+fn reasons_deep(calls: Calls, lines: usize) -> Task {
+    reasons_of(calls, deep_plan_of(lines as u64))
+}
+
 fn open_and_close(calls: Calls, rows: &mut Record, line: u64) {
     let start = (calls.open)(black_box(rows), line, black_box(480));
     assert!(0 <= start, "the line is booked");
@@ -108,7 +132,7 @@ struct Measured {
     task: fn(Calls, usize) -> Task,
 }
 
-const MEASURED: [Measured; 7] = [
+const MEASURED: [Measured; 9] = [
     Measured {
         name: "owner, owned round",
         lines: &LINES,
@@ -138,6 +162,20 @@ const MEASURED: [Measured; 7] = [
         task: sheet,
     },
     Measured {
+        name: "reason",
+        lines: &LINES,
+        calls: TOGETHER,
+        repetitions: 300,
+        task: reasons,
+    },
+    Measured {
+        name: "reason, deep plan",
+        lines: &DEEP_LINES,
+        calls: TOGETHER,
+        repetitions: 300,
+        task: reasons_deep,
+    },
+    Measured {
         name: "open with close",
         lines: &LINES,
         calls: TOGETHER,
@@ -146,7 +184,7 @@ const MEASURED: [Measured; 7] = [
     },
     Measured {
         name: "open with close, deep plan",
-        lines: &[16, 64],
+        lines: &DEEP_LINES,
         calls: TOGETHER,
         repetitions: 300,
         task: changes_deep,
@@ -205,7 +243,8 @@ pub fn profile(mut words: impl Iterator<Item = String>) {
     };
     let mut number = || words.next().and_then(|word| word.parse().ok());
     let row: usize = number().expect(
-        "a row: 0 owned round, 1 idle round, 2 owner under 11 nodes, 3 sheet, 4 open with close, 5 the same in a deep plan, 6 list",
+        "a row: 0 owned round, 1 idle round, 2 owner under 11 nodes, 3 sheet, 4 reason, 5 the same in a deep plan, \
+         6 open with close, 7 the same in a deep plan, 8 list",
     );
     let lines: usize = number().expect("a number of lines");
     let times: usize = number().expect("a number of tasks");

@@ -5,6 +5,7 @@ mod change;
 mod list;
 mod owner;
 pub mod paths;
+pub mod reason;
 pub mod search;
 mod sheet;
 

@@ -6,7 +6,7 @@
 
 #include "gaplinte.h"
 
-#define REFUSALS 9
+#define REFUSALS 12
 
 static gaplinte_plan plan;
 static int differences;
@@ -398,6 +398,200 @@ static void earliest_start(void) {
     EXPECT(gaplinte_open(&plan, 7, 8), 6);
 }
 
+/* What the call answers at a class of a node. It leaves the plan as found, refused or not. */
+static void expect_reason(int at, uint64_t period, uint64_t level, uint64_t offset, uint64_t edge_class,
+                          int64_t expected) {
+    const gaplinte_plan found = plan;
+    int64_t reason = gaplinte_reason(&plan, period, level, offset, edge_class);
+    expect(at, reason, expected);
+    expect(at, gaplinte_step_does_not_divide(reason), expected == GAPLINTE_STEP_DOES_NOT_DIVIDE);
+    expect(at, memcmp(&plan, &found, sizeof found), 0);
+}
+
+#define EXPECT_REASON(period, level, offset, edge_class, expected) \
+    expect_reason(__LINE__, period, level, offset, edge_class, expected)
+
+/* Marked case A up to the 2, which is refused with 5. Root: weight 2. Level 1: at offset 0 a node of weight 2 above the
+ * 4 and the node of the 8, at offset 1 one of weight 3 above the 6. Level 2: the node of the 8 has offset 2 and step 4,
+ * which does not divide 2. */
+static void reasons(void) {
+    memset(&plan, 0, sizeof plan);
+    EXPECT(gaplinte_open(&plan, 9, 4), 0);
+    EXPECT(gaplinte_open(&plan, 2, 6), 1);
+    EXPECT(gaplinte_open(&plan, 3, 8), 2);
+    EXPECT(gaplinte_open(&plan, 1, 2), -GAPLINTE_NO_CANDIDATE);
+    EXPECT_REASON(2, 0, 0, 0, 3);
+    EXPECT_REASON(2, 0, 0, 1, 2);
+    EXPECT_REASON(2, 1, 0, 0, 3);
+    EXPECT_REASON(2, 1, 1, 0, 2);
+    EXPECT_REASON(2, 2, 2, 0, GAPLINTE_STEP_DOES_NOT_DIVIDE);
+    /* For the 8 the node above the 4 has a class for each edge, and that of the 8 has one free. */
+    EXPECT_REASON(8, 1, 0, 0, 9);
+    EXPECT_REASON(8, 1, 0, 1, 3);
+    EXPECT_REASON(8, 2, 2, 0, 3);
+    EXPECT_REASON(8, 2, 2, 1, -GAPLINTE_NO_LINE_IN_CLASS);
+}
+
+/* The same plan. Of two checks the earlier one gives the number, and the step comes before the class. */
+static void refused_reasons(void) {
+    EXPECT_REASON(0, 0, 0, 0, -GAPLINTE_PERIOD_OUT_OF_RANGE);
+    EXPECT_REASON(4096, 0, 0, 0, -GAPLINTE_PERIOD_OUT_OF_RANGE);
+    EXPECT_REASON(0, 3, 0, 0, -GAPLINTE_PERIOD_OUT_OF_RANGE);
+    EXPECT_REASON(4096, 0, 0, 2, -GAPLINTE_PERIOD_OUT_OF_RANGE);
+    EXPECT_REASON(2, 0, 1, 0, -GAPLINTE_NO_NODE);
+    EXPECT_REASON(2, 1, 2, 0, -GAPLINTE_NO_NODE);
+    EXPECT_REASON(2, 2, 0, 0, -GAPLINTE_NO_NODE);
+    EXPECT_REASON(2, 3, 2, 0, -GAPLINTE_NO_NODE);
+    EXPECT_REASON(3, 3, 2, 9, -GAPLINTE_NO_NODE);
+    EXPECT_REASON(2, 0, 1, 2, -GAPLINTE_NO_NODE);
+    EXPECT_REASON(2, 0, 0, 2, -GAPLINTE_NO_CLASS);
+    EXPECT_REASON(2, 1, 0, 1, -GAPLINTE_NO_CLASS);
+    EXPECT_REASON(3, 1, 0, 9, GAPLINTE_STEP_DOES_NOT_DIVIDE);
+    EXPECT_REASON(6, 1, 1, 1, -GAPLINTE_NO_LINE_IN_CLASS);
+    EXPECT_REASON(6, 1, 1, 3, -GAPLINTE_NO_CLASS);
+}
+
+/* The same plan. Cut to 16 or 32 bits all but the largest would be the period 2, level 0 or 1, offset 0 or 1, and class
+ * 0 or 1. */
+static void reasons_of_wide_numbers(void) {
+    const uint64_t multiples[] = {65536, UINT64_C(4294967296)};
+    for (size_t which = 0; which < sizeof multiples / sizeof *multiples; which++) {
+        uint64_t wide = multiples[which];
+        EXPECT_REASON(wide + 2, 0, 0, 0, -GAPLINTE_PERIOD_OUT_OF_RANGE);
+        EXPECT_REASON(2, wide, 0, 0, -GAPLINTE_NO_NODE);
+        EXPECT_REASON(2, wide + 1, 0, 0, -GAPLINTE_NO_NODE);
+        EXPECT_REASON(2, 0, wide, 0, -GAPLINTE_NO_NODE);
+        EXPECT_REASON(2, 1, wide + 1, 0, -GAPLINTE_NO_NODE);
+        EXPECT_REASON(2, 0, 0, wide, -GAPLINTE_NO_CLASS);
+        EXPECT_REASON(2, 0, 0, wide + 1, -GAPLINTE_NO_CLASS);
+    }
+    EXPECT_REASON(UINT64_MAX, 0, 0, 0, -GAPLINTE_PERIOD_OUT_OF_RANGE);
+    EXPECT_REASON(2, UINT64_MAX, 0, 0, -GAPLINTE_NO_NODE);
+    EXPECT_REASON(2, 0, UINT64_MAX, 0, -GAPLINTE_NO_NODE);
+    EXPECT_REASON(2, 0, 0, UINT64_MAX, -GAPLINTE_NO_CLASS);
+    EXPECT_REASON(2, 2, 2, UINT64_MAX, GAPLINTE_STEP_DOES_NOT_DIVIDE);
+}
+
+/* The same plan, in which class 1 of the root becomes free: its only line is closed, and the node above it is gone. */
+static void reason_taken_away(void) {
+    EXPECT(gaplinte_close(&plan, 3), 0);
+    EXPECT_REASON(2, 0, 0, 0, 9);
+    EXPECT(gaplinte_open(&plan, 1, 2), -GAPLINTE_NO_CANDIDATE);
+    EXPECT(gaplinte_close(&plan, 2), 0);
+    EXPECT_REASON(2, 0, 0, 1, -GAPLINTE_NO_LINE_IN_CLASS);
+    EXPECT_REASON(2, 1, 1, 0, -GAPLINTE_NO_NODE);
+    EXPECT(gaplinte_open(&plan, 1, 2), 1);
+    EXPECT_REASON(2, 0, 0, 1, 1);
+}
+
+/* No node is in an empty plan, and under the root of weight 1 stands a line. */
+static void reasons_in_the_smallest_plans(void) {
+    memset(&plan, 0, sizeof plan);
+    EXPECT_REASON(1, 0, 0, 0, -GAPLINTE_NO_NODE);
+    EXPECT_REASON(0, 0, 0, 0, -GAPLINTE_PERIOD_OUT_OF_RANGE);
+    EXPECT(gaplinte_open(&plan, 63, 1), 0);
+    EXPECT_REASON(1, 0, 0, 0, 63);
+    EXPECT_REASON(GAPLINTE_LONGEST_PERIOD, 0, 0, 0, 63);
+    EXPECT_REASON(1, 0, 0, 1, -GAPLINTE_NO_CLASS);
+    EXPECT_REASON(1, 1, 0, 0, -GAPLINTE_NO_NODE);
+}
+
+/* Marked case F: the node at level 10 has offset 1,023 and step 1,024, and its edge 0 leads to the last line. */
+static void reasons_in_a_deep_plan(void) {
+    memset(&plan, 0, sizeof plan);
+    for (unsigned power = 1; power <= 11; power++)
+        EXPECT(gaplinte_open(&plan, power, 1u << power), (1 << (power - 1)) - 1);
+    EXPECT_REASON(2048, 10, 1023, 0, 11);
+    EXPECT_REASON(2048, 10, 1023, 1, -GAPLINTE_NO_LINE_IN_CLASS);
+    EXPECT_REASON(1024, 10, 1023, 0, 11);
+    EXPECT_REASON(512, 10, 1023, 0, GAPLINTE_STEP_DOES_NOT_DIVIDE);
+    EXPECT_REASON(2048, 11, 1023, 0, -GAPLINTE_NO_NODE);
+    EXPECT_REASON(2048, 10, 1022, 0, -GAPLINTE_NO_NODE);
+    EXPECT_REASON(2, 0, 0, 1, 2);
+}
+
+/* The starts of the open lines, -1 for a closed one. */
+static int starts[GAPLINTE_LINES];
+
+static void show_starts(void) {
+    gaplinte_shown shown;
+    for (unsigned line = 0; line < GAPLINTE_LINES; line++)
+        starts[line] = gaplinte_show(&plan, line, &shown) == 0 ? shown.start : -1;
+}
+
+/* The open line of lowest number that owns rounds which leave so much when they are divided by so much. */
+static int64_t lowest_line(int divided_by, int left) {
+    for (int line = 0; line < GAPLINTE_LINES; line++)
+        if (starts[line] >= 0 && starts[line] % divided_by == left) return line;
+    return -GAPLINTE_NO_LINE_IN_CLASS;
+}
+
+static int greatest_common_divisor(int a, int b) {
+    return b == 0 ? a : greatest_common_divisor(b, a % b);
+}
+
+/* Whether a node of this step, offset and weight is a candidate. Each of its classes has the line that the starts
+ * tell. */
+static int expect_node(int at, int period, unsigned level, int step, int offset, int weight) {
+    int classes, is_candidate = 0;
+    uint64_t of_offset = (uint64_t)offset, of_period = (uint64_t)period;
+    if (period % step != 0) {
+        expect_reason(at, of_period, level, of_offset, 0, GAPLINTE_STEP_DOES_NOT_DIVIDE);
+        return 0;
+    }
+    classes = greatest_common_divisor(weight, period / step);
+    for (int i = 0; i < classes; i++) {
+        int64_t expected = lowest_line(step * classes, offset + i * step);
+        expect_reason(at, of_period, level, of_offset, (uint64_t)i, expected);
+        if (expected < 0) is_candidate = 1;
+    }
+    expect_reason(at, of_period, level, of_offset, (uint64_t)classes, -GAPLINTE_NO_CLASS);
+    return is_candidate;
+}
+
+/* Whether a node on a line's path is a candidate. */
+static int expect_path(int at, int period, const gaplinte_row path[GAPLINTE_ROWS]) {
+    int step = 1, offset = 0, is_candidate = 0;
+    for (unsigned level = 0; level < GAPLINTE_ROWS && path[level].weight > 0; level++) {
+        if (expect_node(at, period, level, step, offset, path[level].weight)) is_candidate = 1;
+        offset += path[level].edge * step;
+        step *= path[level].weight;
+    }
+    return is_candidate;
+}
+
+/* For each period: it is refused with 5 exactly where each class of each node has a reason. */
+static void expect_explained(int at) {
+    gaplinte_tried tried;
+    show_starts();
+    for (int period = 1; period <= 300; period++) {
+        int is_candidate = 0;
+        for (unsigned line = 0; line < GAPLINTE_LINES; line++)
+            if (expect_path(at, period, plan.paths[line])) is_candidate = 1;
+        expect(at, gaplinte_trial(&plan, 0, (uint64_t)period, &tried), is_candidate ? 0 : -GAPLINTE_NO_CANDIDATE);
+    }
+}
+
+#define EXPECT_EXPLAINED() expect_explained(__LINE__)
+
+/* Two plans in which some periods are refused with 5 and others are not. */
+static void each_class_of_each_node(void) {
+    memset(&plan, 0, sizeof plan);
+    EXPECT(gaplinte_open(&plan, 63, 4), 0);
+    EXPECT(gaplinte_open(&plan, 2, 6), 1);
+    EXPECT(gaplinte_open(&plan, 1, 8), 2);
+    EXPECT(gaplinte_open(&plan, 4, 12), 3);
+    EXPECT_EXPLAINED();
+    memset(&plan, 0, sizeof plan);
+    EXPECT(gaplinte_open(&plan, 5, 60), 0);
+    EXPECT(gaplinte_open(&plan, 4, 60), 1);
+    EXPECT(gaplinte_open(&plan, 3, 90), 2);
+    EXPECT(gaplinte_open(&plan, 2, 60), 3);
+    EXPECT_EXPLAINED();
+    EXPECT(gaplinte_close(&plan, 4), 0);
+    EXPECT_EXPLAINED();
+}
+
 /* Marked case I. */
 static void list(void) {
     const uint8_t orders[] = {0x01, 0x00, 0x60, 0x02, 0x00, 0x20, 0x03, 0x00, 0x30,
@@ -456,6 +650,9 @@ static void bring_about(int64_t answers[REFUSALS]) {
     answers[6] = gaplinte_run_list(&plan, orders, 2, lent, sizeof lent);
     answers[7] = gaplinte_run_list(&plan, orders, sizeof orders, lent, sizeof lent);
     answers[8] = gaplinte_walk(&plan, &at_end);
+    answers[9] = gaplinte_reason(&plan, 4, 1, 0, 0);
+    answers[10] = gaplinte_reason(&plan, 4, 0, 0, 4);
+    answers[11] = gaplinte_reason(&plan, 4, 0, 0, 1);
 }
 
 /* A refusal is still negative, and the same one, where its answer was kept in a narrower type. */
@@ -518,6 +715,8 @@ static void damaged(void) {
     EXPECT_TRIED(3, 12, 0, 1, 0);
     EXPECT_TRIED(5, 7, 0, 1, 0);
     EXPECT_ALL_IDLE();
+    EXPECT_REASON(0, 0, 0, 0, -GAPLINTE_PERIOD_OUT_OF_RANGE);
+    EXPECT_REASON(12, 0, 0, 0, -GAPLINTE_NO_NODE);
     EXPECT_SAME(plan, found);
     EXPECT(gaplinte_open(&plan, 3, 12), 0);
     EXPECT_SAME(plan, booked);
@@ -547,6 +746,13 @@ int main(void) {
     trials_in_a_full_plan();
     sheet_of_a_full_plan();
     earliest_start();
+    reasons();
+    refused_reasons();
+    reasons_of_wide_numbers();
+    reason_taken_away();
+    reasons_in_the_smallest_plans();
+    reasons_in_a_deep_plan();
+    each_class_of_each_node();
     list();
     order();
     narrowed();

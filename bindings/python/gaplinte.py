@@ -13,8 +13,9 @@ Traceback (most recent call last):
 gaplinte.Refused: refused with 3: the line is open already
 
 A refused call raises Refused, and leaves plan and walker as found. A number that does not fit raises OverflowError, so
-that none is cut: a line, a period and a round have 64 bits, the number of rounds that turns takes has 32, and that of a
-sheet 16. Different plans may be used in different threads; while one thread changes a plan, no other may use it.
+that none is cut: a line, a period, a round, a level, an offset and a class have 64 bits, the number of rounds that
+turns takes has 32, and that of a sheet 16. Different plans may be used in different threads; while one thread changes
+a plan, no other may use it.
 
 The shared library is the file that the environment variable GAPLINTE_LIBRARY names, or else
 target/staticlib/libgaplinte.so of the repository. In the repository it is made by
@@ -39,6 +40,7 @@ KIND_CLOSE = 1
 _LINES = 64
 _ROWS = 11
 _IDLE_FROM = 64
+_STEP_DOES_NOT_DIVIDE = 64
 _ORDER_BYTES = 3
 
 # In the words of include/gaplinte.h.
@@ -52,11 +54,14 @@ _TEXTS = {
     7: "the list is longer than 65535 bytes or ends inside an order",
     8: "the buffer has fewer than two bytes for each order",
     9: "the walker's next round or count is 2^64 - 1",
+    10: "no node has this level and offset",
+    11: "the node has no such class for the period",
+    12: "no line stands in the class",
 }
 
 
 class Refused(Exception):
-    """A call was refused: with a number of document 01, 1 to 9, and what that means."""
+    """A call was refused: with a number of documents 01 and 02, 1 to 12, and what that means."""
 
     def __init__(self, number: int):
         super().__init__(number)
@@ -80,6 +85,20 @@ class Trial(NamedTuple):
     start: int
     added: int
     split: bool
+
+
+class Reason(NamedTuple):
+    """What keeps a period from a class of a node: line is None where the node's step does not divide the period.
+
+    Else it is the open line of lowest number that stands, at any depth, under an edge of the class. It can be 0.
+    """
+
+    line: int | None
+
+    def __str__(self) -> str:
+        if self.line is None:
+            return "the node's step does not divide the period"
+        return f"line {self.line} stands in the class"
 
 
 class Owner(NamedTuple):
@@ -181,6 +200,7 @@ def _loaded() -> ctypes.CDLL:
     for name, arguments in {
         "open": [plan, number, number],
         "trial": [plan, number, number, ctypes.POINTER(_TriedRecord)],
+        "reason": [plan, number, number, number, number],
         "close": [plan, number],
         "owner": [plan, number],
         "show": [plan, number, ctypes.POINTER(_ShownRecord)],
@@ -265,6 +285,35 @@ class Plan:
         tried = _TriedRecord()
         _value(_library.gaplinte_trial(self._record, _number(line), _number(period), tried))
         return Trial(tried.start, tried.added, tried.split == 1)
+
+    def reason(self, period: int, level: int, offset: int, edge_class: int) -> Reason:
+        """The reason behind a 5: what keeps a period from a class of the node at a level and an offset.
+
+        The node of row k of a path has level k, so that the root has level 0. Its step is the product of the weights
+        above it, 1 for the root, and its offset is the sum of the edges above it, each times the step of the node that
+        it belongs to. Where the step divides the period, d is the greatest common divisor of the node's weight and the
+        period divided by the step: the classes are 0 to d - 1, and an edge is of the class that it leaves when it is
+        divided by d. Where the step does not divide the period, the class is not looked at.
+
+        Refused with 2, with 10 where no node has this level and offset, with 11 where the class is not below d, or
+        with 12 where no line stands in the class: the first that applies. On a plan with an open line, an open that
+        passes 1, 2 and 3 is refused with 5 if and only if this call, asked of every level, offset and class, is never
+        refused with 12.
+
+        >>> plan = Plan()
+        >>> plan.open(1, 4), plan.open(2, 6)
+        (0, 1)
+        >>> plan.reason(2, 0, 0, 1), plan.reason(3, 1, 0, 0)
+        (Reason(line=2), Reason(line=None))
+        >>> plan.close(2)
+        >>> plan.reason(2, 0, 0, 1)
+        Traceback (most recent call last):
+            ...
+        gaplinte.Refused: refused with 12: no line stands in the class
+        """
+        node = _number(level), _number(offset)
+        value = _value(_library.gaplinte_reason(self._record, _number(period), *node, _number(edge_class)))
+        return Reason(None if value == _STEP_DOES_NOT_DIVIDE else value)
 
     def close(self, line: int) -> None:
         """Closes a line. Refused with 1 or 4."""

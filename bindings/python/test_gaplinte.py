@@ -3,6 +3,7 @@
 import array
 import copy
 import doctest
+import math
 import os
 import pathlib
 import random
@@ -15,7 +16,21 @@ import threading
 import unittest
 
 import gaplinte
-from gaplinte import KIND_CLOSE, KIND_OPEN, Answer, Call, OpenLine, Owner, Plan, Refused, Row, Sheet, Trial, Walker
+from gaplinte import (
+    KIND_CLOSE,
+    KIND_OPEN,
+    Answer,
+    Call,
+    OpenLine,
+    Owner,
+    Plan,
+    Reason,
+    Refused,
+    Row,
+    Sheet,
+    Trial,
+    Walker,
+)
 
 FOLDER = pathlib.Path(__file__).resolve().parent
 REPOSITORY = FOLDER.parents[1]
@@ -118,9 +133,11 @@ class Refusals(Case):
         for period in (4096, 65548, 2**32 + 4, LAST):
             self.refused(2, plan.open, 2, period)
             self.refused(2, plan.trial, 2, period)
+            self.refused(2, plan.reason, period, 0, 0, 0)
             self.refused(2, gaplinte.pack, KIND_OPEN, 2, period)
         self.refused(2, plan.open, 2, 0)
         self.refused(2, plan.trial, 2, 0)
+        self.refused(2, plan.reason, 0, 0, 0, 0)
         self.refused(3, plan.open, 1, 4)
         self.refused(3, plan.trial, 1, 4)
         self.refused(4, plan.close, 2)
@@ -135,13 +152,16 @@ class Refusals(Case):
         self.refused(7, plan.run_list, b"\0")
         self.refused(7, plan.run_list, bytes(65538))
         self.refused(9, Walker(LAST, 0).walk, plan)
+        self.refused(10, plan.reason, 4, 1, 0, 0)
+        self.refused(11, plan.reason, 4, 0, 0, 4)
+        self.refused(12, plan.reason, 4, 0, 0, 1)
         self.assertEqual(plan, before)
 
     def test_texts_are_those_of_the_header(self):
         header = (REPOSITORY / "include/gaplinte.h").read_text()
         texts = re.findall(r'return "(.*)";', header)
         self.assertEqual(texts[0], "not refused")
-        self.assertEqual([Refused(number).text for number in range(1, 10)], texts[1:10])
+        self.assertEqual([Refused(number).text for number in range(1, 13)], texts[1:13])
         self.assertEqual(len(set(texts)), len(texts))
         self.assertEqual(str(Refused(4)), "refused with 4: the line is not open")
 
@@ -156,6 +176,10 @@ class Numbers(Case):
                 lambda: plan.open(2, number),
                 lambda: plan.trial(number, 8),
                 lambda: plan.trial(2, number),
+                lambda: plan.reason(number, 0, 0, 0),
+                lambda: plan.reason(4, number, 0, 0),
+                lambda: plan.reason(4, 0, number, 0),
+                lambda: plan.reason(4, 0, 0, number),
                 lambda: plan.close(number),
                 lambda: plan.owner(number),
                 lambda: plan.show(number),
@@ -190,6 +214,8 @@ class Numbers(Case):
             self.assertRaises(TypeError, Plan().open, 1, number)
             self.assertRaises(TypeError, Plan().trial, number, 4)
             self.assertRaises(TypeError, Plan().trial, 1, number)
+            self.assertRaises(TypeError, Plan().reason, number, 0, 0, 0)
+            self.assertRaises(TypeError, Plan().reason, 4, 0, 0, number)
             self.assertRaises(TypeError, Plan().owner, number)
             self.assertRaises(TypeError, Plan().sheet, number, 4)
             self.assertRaises(TypeError, Plan().sheet, 1, number)
@@ -232,6 +258,8 @@ class Records(Case):
         self.refused(2, plan.open, 3, 0)
         self.refused(2, plan.trial, 3, 0)
         self.assertEqual(plan.trial(3, 12), (0, 1, False))
+        self.refused(2, plan.reason, 0, 0, 0, 0)
+        self.refused(10, plan.reason, 12, 0, 0, 0)
         self.assertEqual([plan.sheet(LAST, rounds).idle for rounds in (0, 7, MOST)], [0, 7, MOST])
         self.assertEqual(plan.sheet(0, 7), ((0,) * 64, 7))
         self.assertEqual(bytes(plan), numbers.tobytes())
@@ -320,6 +348,151 @@ class Trials(Case):
                     self.refused(refused.number, plan.trial, 63, period)
                 else:
                     self.tried(plan, 63, period)
+
+
+class Reasons(Case):
+    def reasons(self, plan, period, *classes):
+        """The lines at classes of nodes, each of them a level, an offset and a class; the plan stays as found."""
+        before = copy.copy(plan)
+        lines = [plan.reason(period, *asked).line for asked in classes]
+        self.assertEqual(plan, before)
+        return lines
+
+    def test_taken_away_one_after_the_other(self):
+        plan = self.opened("4@0", "6@1", "8@2", "2!5")
+        # The root and the node above the 4 and the 8 have weight 2, the one above the 6 has weight 3. The node of the 8
+        # has step 4.
+        above, above_the_6 = ((0, 0, 0), (1, 0, 0)), ((0, 0, 1), (1, 1, 0))
+        self.assertEqual(self.reasons(plan, 2, *above, *above_the_6, (2, 2, 0)), [1, 1, 2, 2, None])
+        plan.close(3)
+        self.assertEqual(self.reasons(plan, 2, *above, *above_the_6), [1, 1, 2, 2])
+        self.refused(10, plan.reason, 2, 2, 2, 0)
+        self.refused(5, plan.open, 4, 2)
+        plan.close(2)
+        self.assertEqual(self.reasons(plan, 2, *above), [1, 1])
+        self.refused(12, plan.reason, 2, 0, 0, 1)
+        self.refused(10, plan.reason, 2, 1, 1, 0)
+        self.assertEqual(plan.open(4, 2), 1)
+        self.assertEqual(plan.reason(2, 0, 0, 1), Reason(line=4))
+
+    def test_the_lowest_number_at_any_depth(self):
+        plan = Plan()
+        self.assertEqual([plan.open(*each) for each in ((9, 4), (63, 6), (5, 8), (0, 16))], [0, 1, 2, 6])
+        self.assertEqual(self.reasons(plan, 2, (0, 0, 0), (0, 0, 1)), [0, 63])
+        self.assertEqual(self.reasons(plan, 4, (1, 0, 0), (1, 0, 1)), [9, 0])
+        plan.close(0)
+        self.assertEqual(self.reasons(plan, 4, (0, 0, 0), (1, 0, 1)), [5, 5])
+
+    def test_classes_by_the_divisor(self):
+        plan = self.opened(*(f"12@{start}" for start in range(8)))
+        for line in (1, 3, 4, 5, 6):
+            plan.close(line)
+        # The root has weight 12, and its edges 1, 6 and 7 lead to lines 2, 7 and 8.
+        for period, lines in ((1, [2]), (5, [2]), (2, [7, 2]), (10, [7, 2])):
+            classes = range(len(lines))
+            self.assertEqual(self.reasons(plan, period, *((0, 0, each) for each in classes)), lines)
+            self.refused(11, plan.reason, period, 0, 0, len(lines))
+        for period, free, classes in ((9, 2, 3), (6, 5, 6), (30, 2, 6), (12, 0, 12), (24, 11, 12)):
+            self.refused(12, plan.reason, period, 0, 0, free)
+            self.refused(11, plan.reason, period, 0, 0, classes)
+        self.assertEqual(self.reasons(plan, 6, (0, 0, 0), (0, 0, 1)), [7, 2])
+        self.assertEqual(self.reasons(plan, 12, (0, 0, 1), (0, 0, 6), (0, 0, 7)), [2, 7, 8])
+
+    def test_checks_in_sequence(self):
+        plan = self.opened("6@0", "12@1", "12@2")
+        before = copy.copy(plan)
+        for period in (0, 4096):
+            for asked in ((0, 0, 0), (0, 0, 9), (1, 0, 0)):
+                self.refused(2, plan.reason, period, *asked)
+        # Line 1 stands at level 1 and offset 0, and line 2 at level 2 and offset 1.
+        for period in (5, 12):
+            for asked in ((1, 0, 0), (1, 3, 0), (0, 1, 9), (2, 1, 0), (11, 0, 0)):
+                self.refused(10, plan.reason, period, *asked)
+        self.assertEqual(self.reasons(plan, 5, (1, 1, 0), (1, 1, 2), (1, 1, LAST)), [None] * 3)
+        self.refused(11, plan.reason, 12, 1, 1, 2)
+        self.refused(11, plan.reason, 12, 0, 0, 7)
+        self.refused(12, plan.reason, 12, 1, 1, 1)
+        self.refused(12, plan.reason, 12, 0, 0, 3)
+        self.assertEqual(plan, before)
+
+    def test_wide_numbers(self):
+        plan = self.opened("4@0", "6@1", "8@2")
+        # Cut to 16 or 32 bits they would be 0, 1 and 2.
+        for wide in (2**16, 2**32, 2**63):
+            self.refused(2, plan.reason, wide + 2, 0, 0, 0)
+            for asked in ((wide, 0, 0), (wide + 1, 0, 0), (0, wide, 0), (1, wide + 1, 0)):
+                self.refused(10, plan.reason, 2, *asked)
+            self.refused(11, plan.reason, 2, 0, 0, wide)
+            self.refused(11, plan.reason, 2, 0, 0, wide + 1)
+        self.refused(2, plan.reason, LAST, 0, 0, 0)
+        self.refused(10, plan.reason, 2, LAST, 0, 0)
+        self.refused(10, plan.reason, 2, 0, LAST, 0)
+        self.refused(11, plan.reason, 2, 0, 0, LAST)
+
+    def test_the_smallest_plans(self):
+        emptied = self.opened("4@0")
+        emptied.close(1)
+        for plan in (Plan(), emptied):
+            self.refused(10, plan.reason, 4, 0, 0, 0)
+        plan = self.opened("1@0")
+        self.assertEqual([plan.reason(period, 0, 0, 0).line for period in (1, 4095)], [1, 1])
+        self.refused(11, plan.reason, 4095, 0, 0, 1)
+        self.refused(10, plan.reason, 4095, 1, 0, 0)
+
+    def test_a_deep_plan(self):
+        plan = self.opened(*(f"{2**power}@{2**(power - 1) - 1}" for power in range(1, 12)))
+        self.assertEqual(self.reasons(plan, 1024, (10, 1023, 0), (9, 511, 0), (9, 511, 1)), [11, 10, 11])
+        self.assertEqual(self.reasons(plan, 512, (10, 1023, 0)), [None])
+        self.refused(12, plan.reason, 2048, 10, 1023, 1)
+        self.refused(10, plan.reason, 2048, 11, 1023, 0)
+
+    def test_texts(self):
+        self.assertEqual(str(Reason(line=4)), "line 4 stands in the class")
+        self.assertEqual(str(Reason(line=None)), "the node's step does not divide the period")
+
+    def nodes(self, plan):
+        """Step and weight of each node of a plan, by level and offset."""
+        nodes = {}
+        for line, *_ in plan.lines():
+            step, offset = 1, 0
+            for level, row in enumerate(row for row in plan.show(line).path if row.weight):
+                nodes[level, offset] = (step, row.weight)
+                step, offset = step * row.weight, offset + row.edge * step
+        return nodes
+
+    def free_classes(self, plan, period):
+        """How many classes of nodes have no reason; each other one has the line that the starts tell.
+
+        The edges of a class lead to the rounds that leave its first one when they are divided by step times d.
+        """
+        lines, free = plan.lines(), 0
+        for (level, offset), (step, weight) in self.nodes(plan).items():
+            if period % step:
+                self.assertEqual(self.reasons(plan, period, (level, offset, 0)), [None])
+                continue
+            d = math.gcd(weight, period // step)
+            for first, edge_class in zip(range(offset, offset + step * d, step), range(d)):
+                within = [it.line for it in lines if it.start % (step * d) == first]
+                if within:
+                    self.assertEqual(self.reasons(plan, period, (level, offset, edge_class)), within[:1])
+                else:
+                    self.refused(12, plan.reason, period, level, offset, edge_class)
+                    free += 1
+            self.refused(11, plan.reason, period, level, offset, d)
+        return free
+
+    def test_each_class_of_each_node(self):
+        seen = set()
+        for periods in (("4@0", "6@1", "8@2", "12@3"), ("60@0", "60@1", "90@2", "60@3"), ("5@0", "35@1")):
+            plan = self.opened(*periods)
+            for period in range(1, 150):
+                free = self.free_classes(plan, period)
+                seen.add(free > 0)
+                if free:
+                    copy.copy(plan).open(63, period)
+                else:
+                    self.refused(5, plan.open, 63, period)
+        self.assertEqual(seen, {False, True})
 
 
 class Turns(Case):

@@ -66,11 +66,12 @@ mod tests {
     #[test]
     fn other_steps_stay_and_a_larger_count_adds() {
         for shape in Shape::ALL {
-            let script = generated(5, 6, shape);
-            assert!(generated(5, 9, shape).starts_with(&script));
+            let without = |count: u64| with_trials(&generated_calls(5, count, shape), 5);
+            let script = with_sheets(&without(6), 5);
+            assert!(with_sheets(&without(9), 5).starts_with(&script));
             assert!(script.iter().any(is_sheet));
             let others = script.into_iter().filter(|step| !is_sheet(step));
-            assert!(others.eq(with_trials(&generated_calls(5, 6, shape), 5)));
+            assert!(others.eq(without(6)));
         }
     }
 

@@ -49,20 +49,32 @@ fn drawn_line(plan: &Plan, random: &mut Random) -> u64 {
 /// Mostly a divisor or a multiple of the period of an open line, as these often fit.
 fn drawn_period(plan: &Plan, random: &mut Random) -> u64 {
     let any = 1 + random.below(LAST_PERIOD);
-    let shown = (0..=LAST_LINE).filter_map(|line| show(plan, line).ok());
-    let mut periods: Vec<u64> = shown.map(|shown| shown.period.0.into()).collect();
+    let mut periods = open_periods(plan);
     if periods.is_empty() {
         periods.push(any);
     }
     let period = random.pick(&periods);
-    let divides = |divisor: &u64| period.is_multiple_of(*divisor);
-    let divisors: Vec<u64> = (1..=period).filter(divides).collect();
     match random.below(16) {
         0 => random.pick(&[0, LAST_PERIOD + 1, 1 << 16 | any, 1 << 32 | any, u64::MAX]),
         1 | 2 => any,
-        3..=8 => random.pick(&divisors),
-        _ => period * (1 + random.below(LAST_PERIOD / period)),
+        3..=8 => random.pick(&divisors(period)),
+        _ => drawn_multiple(period, random),
     }
+}
+
+pub(crate) fn open_periods(plan: &Plan) -> Vec<u64> {
+    let shown = (0..=LAST_LINE).filter_map(|line| show(plan, line).ok());
+    shown.map(|shown| shown.period.0.into()).collect()
+}
+
+pub(crate) fn divisors(period: u64) -> Vec<u64> {
+    let divides = |divisor: &u64| period.is_multiple_of(*divisor);
+    (1..=period).filter(divides).collect()
+}
+
+/// Up to the longest period.
+pub(crate) fn drawn_multiple(number: u64, random: &mut Random) -> u64 {
+    number * (1 + random.below(LAST_PERIOD / number))
 }
 
 #[cfg(test)]

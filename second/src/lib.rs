@@ -1,6 +1,6 @@
-//! A second implementation of document 01 and, of document 02, Ask 1, Ask 3, Ask 4, Ask 5 and
-//! Ask 6, written from these documents alone. It writes the outputs that the proved program is
-//! tested against.
+//! A second implementation of document 01 and, of document 02, Ask 1, Ask 3, Ask 4, Ask 5,
+//! Ask 6 and Ask 7, written from these documents alone. It writes the outputs that the proved
+//! program is tested against.
 //!
 //! Comments cite document 01 as (section, sentence), counted within the section; the one
 //! word before the items of Opening a line is not counted. (Refusals, 3) is refusal 3 of
@@ -11,10 +11,12 @@
 pub mod ask;
 pub mod book;
 pub mod border_owners;
+pub mod border_reasons;
 pub mod border_rests;
 pub mod border_sheets;
 pub mod border_trials;
 pub mod border_turns;
+pub mod drawn_reasons;
 pub mod drawn_sheets;
 pub mod drawn_trials;
 pub mod head;
@@ -25,6 +27,7 @@ pub mod long_list;
 pub mod order_counts;
 pub mod orders;
 pub mod random;
+pub mod reason;
 pub mod record;
 pub mod refusal;
 pub mod script;
@@ -42,3 +45,5 @@ mod ledger;
 mod naive;
 #[cfg(test)]
 mod offers;
+#[cfg(test)]
+mod refused_with_5;

@@ -1,8 +1,8 @@
 //! Scripts of list calls, and what each call answers: the input and the expected output
 //! of the test program that runs order lists on one plan after another.
 //!
-//! A script is a sequence of steps. A step is a kind, then three numbers of 64 bits, most
-//! significant byte first, those that are not named here 0: 25 bytes, as in `script.rs`.
+//! A script is a sequence of steps. A step is a kind, then four numbers of 64 bits, most
+//! significant byte first, those that are not named here 0: 33 bytes, as in `script.rs`.
 //! Kinds: 0 begins again with the empty plan, 1 writes a number into the record (place,
 //! number), 2 asks for a number of the record (place), 3 asks for an owner (round), 4 gives
 //! bytes (count), 5 runs a list (length, room). The bytes that are given, 1 to 100,000,
@@ -65,7 +65,7 @@ impl Step {
             Step::Give(ref bytes) => (4, bytes.len() as u64, 0),
             Step::List { length, room } => (5, length as u64, room as u64),
         };
-        out.write_all(&head::write(kind, [first, second, 0]))?;
+        out.write_all(&head::write(kind, [first, second, 0, 0]))?;
         match self {
             Step::Give(bytes) => out.write_all(bytes),
             _ => Ok(()),
@@ -75,7 +75,7 @@ impl Step {
     /// The first step of a script, and the script after it.
     fn read(script: &[u8]) -> Option<(Step, &[u8])> {
         let (head, rest) = script.split_first_chunk::<HEAD_BYTES>()?;
-        let (kind, [first, second, _]) = head::read(head);
+        let (kind, [first, second, ..]) = head::read(head);
         let step = match kind {
             0 => Step::Begin,
             1 => Step::Write {
@@ -271,7 +271,7 @@ mod tests {
     #[test]
     fn steps_outside_the_limits_are_not_read() {
         let head = |kind: u8, first: u64, second: u64| {
-            let head = head::write(kind, [first, second, 0]);
+            let head = head::write(kind, [first, second, 0, 0]);
             [head.to_vec(), vec![0; LIST_BYTES + 1]].concat()
         };
         for (kind, first, second) in [

@@ -1,7 +1,10 @@
 //! A second reading of the candidate rule and of the earliest start, over a flat list of the
-//! nodes, of the form of the tree, and of owner and sheet, by periods and starts. Only for tests.
+//! nodes, of the form of the tree, of owner and sheet, by periods and starts, and of the reason, by
+//! shown paths and starts. Only for tests.
 
 use crate::ask::{show, Owner};
+use crate::reason::{Asked, Reason};
+use crate::refusal::Refusal;
 use crate::sheet::{Sheet, LINES};
 use crate::tree::{gcd, Node, Plan, Position, Under};
 use std::collections::BTreeMap;
@@ -10,13 +13,6 @@ use std::collections::BTreeMap;
 pub(crate) struct Placed<'a> {
     node: &'a Node,
     position: Position,
-}
-
-impl Placed<'_> {
-    /// (The tree, 8).
-    fn level(&self) -> usize {
-        self.position.edges_above.len()
-    }
 }
 
 /// All nodes of the plan.
@@ -46,7 +42,7 @@ pub(crate) fn nodes(plan: &Plan) -> Vec<Placed<'_>> {
 pub(crate) fn weights(plan: &Plan) -> BTreeMap<(usize, u16), u16> {
     let placed = nodes(plan).into_iter();
     placed
-        .map(|it| ((it.level(), it.position.offset), it.node.weight))
+        .map(|it| ((it.position.level(), it.position.offset), it.node.weight))
         .collect()
 }
 
@@ -140,6 +136,45 @@ pub(crate) fn expected_sheet(times: &[Time], first: u64, rounds: u16) -> Sheet {
     Sheet { turns, idle }
 }
 
+/// Step and weight of each node that an open line's path shows, by level and offset: a plan has no
+/// other nodes.
+fn shown_nodes(plan: &Plan) -> BTreeMap<(u64, u64), (u64, u64)> {
+    let mut nodes = BTreeMap::new();
+    for shown in (0..64).filter_map(|line| show(plan, line).ok()) {
+        let (mut step, mut offset) = (1, 0);
+        let rows = shown.path.iter().take_while(|row| row.weight > 0);
+        for (level, row) in (0..).zip(rows) {
+            let (weight, edge) = (u64::from(row.weight), u64::from(row.edge));
+            nodes.insert((level, offset), (step, weight));
+            offset += edge * step;
+            step *= weight;
+        }
+    }
+    nodes
+}
+
+/// What the reason must be (Ask 7, 2 and 4). The edges of class i lead to the rounds that leave
+/// r + i·m when divided by m·d (The tree, 12), and a line's start is a round that leads to it.
+pub(crate) fn expected_reason(plan: &Plan, asked: Asked) -> Result<Reason, Refusal> {
+    let Asked { period, class, .. } = asked;
+    if period == 0 || period > 4_095 {
+        return Err(Refusal::Period);
+    }
+    let node = (asked.level, asked.offset);
+    let (step, weight) = *shown_nodes(plan).get(&node).ok_or(Refusal::NoNode)?;
+    if !period.is_multiple_of(step) {
+        return Ok(Reason::Step);
+    }
+    let divides_both = |d: &u64| weight.is_multiple_of(*d) && (period / step).is_multiple_of(*d);
+    let d = (1..=weight).rev().find(divides_both).unwrap_or(1);
+    if class >= d {
+        return Err(Refusal::NoClass);
+    }
+    let leads_to_it = |it: &Time| u64::from(it.start) % (step * d) == asked.offset + class * step;
+    let first = times(plan).into_iter().find(leads_to_it);
+    first.map(|it| Reason::Line(it.line)).ok_or(Refusal::NoLine)
+}
+
 /// The form that every plan must have (The tree, 15 and 16).
 pub(crate) fn is_tree(plan: &Plan) -> bool {
     let placed = nodes(plan);
@@ -166,7 +201,7 @@ fn is_node(placed: &Placed, nodes: usize) -> bool {
     let weight_1 = node.weight == 1 && nodes == 1 && lines_of(node).len() == 1;
     (node.weight >= 2 || weight_1)
         && span <= 4_095
-        && placed.level() < 11
+        && position.level() < 11
         && !node.edges.is_empty()
         && node.edges.keys().all(|&edge| edge < node.weight)
 }

@@ -10,7 +10,7 @@ use crate::tree::{Candidate, Plan, Start, LAST_PERIOD};
 use std::collections::BTreeSet;
 
 /// The plans that a list leaves on its way, after every fourth order.
-fn plans_of(list: &[u8]) -> Vec<Plan> {
+pub(crate) fn plans_of(list: &[u8]) -> Vec<Plan> {
     let (mut plan, mut plans) = (Plan::empty(), Vec::new());
     for (at, order) in list.chunks_exact(ORDER_BYTES).enumerate() {
         let _ = run_order(&mut plan, [order[0], order[1], order[2]]);
@@ -20,7 +20,7 @@ fn plans_of(list: &[u8]) -> Vec<Plan> {
 }
 
 /// 1 to 60, and every divisor and multiple of the period of an open line.
-fn periods_for(plan: &Plan) -> BTreeSet<u16> {
+pub(crate) fn periods_for(plan: &Plan) -> BTreeSet<u16> {
     let shown = (0..64).filter_map(|line| show(plan, line).ok());
     let open: BTreeSet<u16> = shown.map(|shown| shown.period.0).collect();
     let fits = |period: &u16| {

@@ -74,6 +74,7 @@ impl Record {
 
 /// What a script works on: a record, and the plan that it is. A call that is not refused
 /// leaves the record of its plan, a refused one leaves the record as found.
+#[derive(Clone)]
 pub struct Held {
     pub record: Record,
     pub plan: Plan,

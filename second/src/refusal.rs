@@ -1,11 +1,12 @@
-//! The refusal numbers of document 01, section Who brings a refusal about.
+//! The refusal numbers of document 01, section Who brings a refusal about, and those that
+//! document 02 adds to them, from 10 on.
 
 /// All that a refused call answers (Refusals, first sentence).
 #[derive(Clone, Copy, Debug, PartialEq, Eq)]
 pub enum Refusal {
     /// No such line (Refusals, 1).
     Line = 1,
-    /// Period out of range; packing lets 0 pass (Refusals, 2).
+    /// Period out of range; packing lets 0 pass (Refusals, 2). Given by reason too (Ask 7, 4).
     Period = 2,
     /// Given by open and trial only (Refusals, 3).
     LineOpen = 3,
@@ -21,6 +22,12 @@ pub enum Refusal {
     AnswerBuffer = 8,
     /// The walker cannot move on (Refusals, 9).
     Place = 9,
+    /// No node has that level and offset (Ask 7, 4).
+    NoNode = 10,
+    /// The node has fewer classes (Ask 7, 4).
+    NoClass = 11,
+    /// No line stands in the class (Ask 7, 4).
+    NoLine = 12,
 }
 
 impl Refusal {
@@ -34,7 +41,7 @@ mod tests {
     use super::Refusal::*;
 
     #[test]
-    fn numbers_are_those_of_document_01() {
+    fn numbers_are_those_of_the_documents() {
         let all = [
             Line,
             Period,
@@ -45,8 +52,11 @@ mod tests {
             ListLength,
             AnswerBuffer,
             Place,
+            NoNode,
+            NoClass,
+            NoLine,
         ];
         let numbers: Vec<u8> = all.iter().map(|refusal| refusal.number()).collect();
-        assert_eq!(numbers, [1, 2, 3, 4, 5, 6, 7, 8, 9]);
+        assert_eq!(numbers, [1, 2, 3, 4, 5, 6, 7, 8, 9, 10, 11, 12]);
     }
 }

@@ -1,12 +1,12 @@
 //! Scripts of calls, and what each call answers: the input and the expected output of the
 //! test program that puts the public calls to one plan after another.
 //!
-//! A script is a sequence of steps of 25 bytes: a kind, then three numbers of 64 bits, most
+//! A script is a sequence of steps of 33 bytes: a kind, then four numbers of 64 bits, most
 //! significant byte first, those that are not named here 0. Kinds: 0 opens (line, period),
 //! 1 closes (line), 2 begins again with the empty plan, 3 writes a number into the record
 //! (place, number), 4 asks for an owner (round), 5 shows (line), 6 asks for turns (line,
 //! first, rounds), 7 walks (next, owned), 8 makes a trial (line, period), 9 asks for a sheet
-//! (first, rounds).
+//! (first, rounds), 10 asks for a reason (period, level, offset, class).
 //!
 //! Each step prints one line, a walk two:
 //! `open LINE PERIOD RESULT START`, with `-` for the start of a refused open;
@@ -17,23 +17,28 @@
 //! the walker by value, then `lent` and the same from the walker on a lent place;
 //! `trial LINE PERIOD 0 START ADDED SPLIT`, with the number of nodes added and `split` or
 //! `whole`, or `trial LINE PERIOD RESULT - - -`;
-//! `sheet FIRST ROUNDS`, the turns of the lines 0 to 63, and the idle rounds.
+//! `sheet FIRST ROUNDS`, the turns of the lines 0 to 63, and the idle rounds;
+//! `reason PERIOD LEVEL OFFSET CLASS 0` and then `line LINE`, or `step` where the step does not
+//! divide the period, or `reason PERIOD LEVEL OFFSET CLASS RESULT -`.
 //!
 //! A number that is written may leave the record a tree, the same or another, or make it
 //! none, which counts as the empty plan: `record.rs` says which.
 
 use crate::ask::{owner, show, turns, Owner, Shown};
 use crate::border_owners::border_owners;
+use crate::border_reasons::border_reasons;
 use crate::border_rests::border_rests;
 use crate::border_sheets::border_sheets;
 use crate::border_trials::border_trials;
 use crate::border_turns::border_turns;
+use crate::drawn_reasons::with_reasons;
 use crate::drawn_sheets::with_sheets;
 use crate::drawn_trials::with_trials;
 use crate::head::{self, HEAD_BYTES};
 use crate::lists;
 use crate::orders::{read, Order, ORDER_BYTES};
 use crate::random::Random;
+use crate::reason::{reason, Asked, Reason};
 use crate::record::{drawn_write, Held, RECORD_NUMBERS};
 use crate::refusal::Refusal;
 use crate::shapes::Shape;
@@ -55,31 +60,33 @@ pub enum Step {
     Walk(Place),
     Trial(u64, u64),
     Sheet { first: u64, rounds: u16 },
+    Reason(Asked),
 }
 
 impl Step {
     pub fn bytes(self) -> [u8; HEAD_BYTES] {
         let (kind, numbers) = match self {
-            Step::Open(line, period) => (0, [line, period, 0]),
-            Step::Close(line) => (1, [line, 0, 0]),
-            Step::Begin => (2, [0, 0, 0]),
-            Step::Write(place, number) => (3, [place, number.into(), 0]),
-            Step::Owner(round) => (4, [round, 0, 0]),
-            Step::Show(line) => (5, [line, 0, 0]),
+            Step::Open(line, period) => (0, [line, period, 0, 0]),
+            Step::Close(line) => (1, [line, 0, 0, 0]),
+            Step::Begin => (2, [0, 0, 0, 0]),
+            Step::Write(place, number) => (3, [place, number.into(), 0, 0]),
+            Step::Owner(round) => (4, [round, 0, 0, 0]),
+            Step::Show(line) => (5, [line, 0, 0, 0]),
             Step::Turns {
                 line,
                 first,
                 rounds,
-            } => (6, [line, first, rounds.into()]),
-            Step::Walk(Place { next, owned }) => (7, [next, owned, 0]),
-            Step::Trial(line, period) => (8, [line, period, 0]),
-            Step::Sheet { first, rounds } => (9, [first, rounds.into(), 0]),
+            } => (6, [line, first, rounds.into(), 0]),
+            Step::Walk(Place { next, owned }) => (7, [next, owned, 0, 0]),
+            Step::Trial(line, period) => (8, [line, period, 0, 0]),
+            Step::Sheet { first, rounds } => (9, [first, rounds.into(), 0, 0]),
+            Step::Reason(asked) => (10, [asked.period, asked.level, asked.offset, asked.class]),
         };
         head::write(kind, numbers)
     }
 
     pub fn of(bytes: [u8; HEAD_BYTES]) -> Option<Step> {
-        let (kind, [first, second, third]) = head::read(&bytes);
+        let (kind, [first, second, third, fourth]) = head::read(&bytes);
         match kind {
             0 => Some(Step::Open(first, second)),
             1 => Some(Step::Close(first)),
@@ -101,14 +108,21 @@ impl Step {
                 first,
                 rounds: u16::try_from(second).ok()?,
             }),
+            10 => Some(Step::Reason(Asked {
+                period: first,
+                level: second,
+                offset: third,
+                class: fourth,
+            })),
             _ => None,
         }
     }
 }
 
 /// The named cases, then walks at the borders of a place's numbers, turns at those of a first
-/// round, owners and rests at those of a round, trials at those of a line and a period, and
-/// sheets at those of a first round and a number of rounds.
+/// round, owners and rests at those of a round, trials at those of a line and a period, sheets at
+/// those of a first round and a number of rounds, and reasons at those of a period, a level, an
+/// offset and a class.
 pub fn cases() -> Vec<Step> {
     let named = named_cases().into_iter();
     let begun = named.flat_map(|case| [vec![Step::Begin], case].concat());
@@ -119,6 +133,7 @@ pub fn cases() -> Vec<Step> {
         border_rests(),
         border_trials(),
         border_sheets(),
+        border_reasons(),
     ];
     begun.chain(borders.concat()).collect()
 }
@@ -199,10 +214,10 @@ fn border_walks() -> Vec<Step> {
         .collect()
 }
 
-/// Calls on generated lists' plans, and trials and sheets among them.
+/// Calls on generated lists' plans, and trials, sheets and reasons among them.
 pub fn generated(seed: u64, count: u64, shape: Shape) -> Vec<Step> {
     let calls = generated_calls(seed, count, shape);
-    with_sheets(&with_trials(&calls, seed), seed)
+    with_reasons(&with_sheets(&with_trials(&calls, seed), seed), seed)
 }
 
 /// Opens and closes of generated lists (`lists`), every eighth with a line or a period that
@@ -387,6 +402,7 @@ fn print_question(plan: &Plan, step: Step, out: &mut impl Write) -> io::Result<(
             let columns = listed(&sheet(plan, first, rounds));
             writeln!(out, "sheet {first} {rounds} {columns}")
         }
+        Step::Reason(asked) => print_reason(plan, asked, out),
         _ => Ok(()),
     }
 }
@@ -456,6 +472,25 @@ fn listed(sheet: &Sheet) -> String {
     format!("{}{}", turns.concat(), sheet.idle)
 }
 
+fn print_reason(plan: &Plan, asked: Asked, out: &mut impl Write) -> io::Result<()> {
+    let Asked {
+        period,
+        level,
+        offset,
+        class,
+    } = asked;
+    let answer = explained(reason(plan, asked));
+    writeln!(out, "reason {period} {level} {offset} {class} {answer}")
+}
+
+fn explained(answer: Result<Reason, Refusal>) -> String {
+    match answer {
+        Ok(Reason::Step) => "0 step".to_string(),
+        Ok(Reason::Line(line)) => format!("0 line {line}"),
+        Err(refusal) => format!("{} -", refusal.number()),
+    }
+}
+
 fn opened(answer: Result<Start, Refusal>) -> String {
     match answer {
         Ok(start) => format!("0 {}", start.0),
@@ -470,7 +505,7 @@ fn number(answer: Result<(), Refusal>) -> u8 {
 #[cfg(test)]
 pub(crate) mod tests {
     use super::*;
-    use crate::naive::{expected_owner, expected_sheet, times};
+    use crate::naive::{expected_owner, expected_reason, expected_sheet, times};
 
     /// Of each write whether it leaves another tree than there was; none where it leaves none.
     pub(crate) fn trees_left_by_writes(steps: &[Step]) -> Vec<Option<bool>> {
@@ -507,14 +542,20 @@ pub(crate) mod tests {
                 first: next,
                 rounds: 65_535,
             },
+            Step::Reason(Asked {
+                period: 1 << 32 | 12,
+                level: 256,
+                offset: next - 1,
+                class: next,
+            }),
         ] {
             assert_eq!(Step::of(step.bytes()), Some(step));
         }
         for bytes in [
-            [10; HEAD_BYTES],
-            head::write(3, [0, 1 << 16, 0]),
-            head::write(6, [3, 0, 1 << 32]),
-            head::write(9, [0, 1 << 16, 0]),
+            [11; HEAD_BYTES],
+            head::write(3, [0, 1 << 16, 0, 0]),
+            head::write(6, [3, 0, 1 << 32, 0]),
+            head::write(9, [0, 1 << 16, 0, 0]),
         ] {
             assert_eq!(Step::of(bytes), None);
         }
@@ -718,6 +759,53 @@ pub(crate) mod tests {
             count += 1;
         }
         assert!(count > 400, "{count}");
+    }
+
+    /// `line`, `step`, and the refusals 2, 10, 11 and 12.
+    fn outcome(answer: Result<Reason, Refusal>) -> usize {
+        match answer {
+            Ok(Reason::Line(_)) => 0,
+            Ok(Reason::Step) => 1,
+            Err(Refusal::Period) => 2,
+            Err(Refusal::NoNode) => 3,
+            Err(Refusal::NoClass) => 4,
+            Err(_) => 5,
+        }
+    }
+
+    /// How often each outcome of a reason is among the steps; each is as paths and starts say,
+    /// after writes too.
+    fn reasons_in(steps: &[Step]) -> [usize; 6] {
+        let mut held = Held::empty();
+        let mut counts = [0; 6];
+        for &step in steps {
+            change(&mut held, step);
+            if let Step::Reason(asked) = step {
+                let answer = reason(&held.plan, asked);
+                assert_eq!(answer, expected_reason(&held.plan, asked), "{asked:?}");
+                counts[outcome(answer)] += 1;
+            }
+        }
+        counts
+    }
+
+    fn assert_often(steps: &[Step], least: [usize; 6]) {
+        let counts = reasons_in(steps);
+        let is_often = counts
+            .iter()
+            .zip(least)
+            .all(|(&count, least)| count >= least);
+        assert!(is_often, "{counts:?} {least:?}");
+    }
+
+    /// At the borders, in each shape of generated lists, and in all of these.
+    #[test]
+    fn reasons_have_every_outcome_often() {
+        assert_often(&cases(), [150, 30, 300, 1_000, 250, 50]);
+        for shape in Shape::ALL {
+            assert_often(&generated(1, 10, shape), [300, 15, 25, 80, 100, 120]);
+        }
+        assert_often(&stored_lists(), [3_900, 1_000, 140, 400, 1_800, 2_000]);
     }
 
     /// After a number is written the record is no tree, the same tree, or another one.

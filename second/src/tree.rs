@@ -100,6 +100,11 @@ impl Position {
         }
     }
 
+    /// (The tree, 8).
+    pub(crate) fn level(&self) -> usize {
+        self.edges_above.len()
+    }
+
     /// The node under `edge` of the node of this position and of `weight`.
     pub(crate) fn under(&self, weight: u16, edge: u16) -> Position {
         let mut edges_above = self.edges_above.clone();

@@ -31,7 +31,7 @@ impl Spot {
 /// step, and its step is at most 2,047.
 type Seen = [u8; 2_047];
 
-fn gcd(a: u16, b: u16) -> u16 {
+pub fn gcd(a: u16, b: u16) -> u16 {
     let (mut larger, mut smaller) = (a, b);
     while smaller != 0 {
         (larger, smaller) = (smaller, larger % smaller);

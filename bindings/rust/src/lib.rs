@@ -21,15 +21,17 @@ mod numbers;
 mod owner;
 mod plan;
 pub mod raw;
+mod reason;
 mod refusal;
 mod sheet;
 mod walker;
 
 pub use answers::{Answered, Answers};
 pub use call::Call;
-pub use numbers::{Line, Period, Round, Start};
+pub use numbers::{Class, Line, Period, Round, Start};
 pub use owner::Owner;
 pub use plan::{OpenLine, Plan, Row, Shown, Trial};
+pub use reason::{Node, Reason};
 pub use refusal::Refusal;
 pub use sheet::Sheet;
 pub use walker::Walker;

@@ -1,5 +1,5 @@
-//! Lines, periods, starts and rounds are all whole numbers, and none may be taken for another. Each is 64 bits wide, so
-//! that a number out of range is refused and never cut.
+//! Lines, periods, starts, rounds and classes are all whole numbers, and none may be taken for another. Each is 64 bits
+//! wide, so that a number out of range is refused and never cut.
 
 use std::fmt;
 
@@ -19,6 +19,12 @@ pub struct Start(pub u64);
 #[derive(Clone, Copy, Debug, Default, PartialEq, Eq, PartialOrd, Ord, Hash)]
 pub struct Round(pub u64);
 
+/// A class of a node's edges, for a period that the node's step divides. With d, the greatest common divisor of the
+/// node's weight and the period divided by the step, the classes are 0 to d - 1, and an edge is of the class that it
+/// leaves when it is divided by d.
+#[derive(Clone, Copy, Debug, PartialEq, Eq, PartialOrd, Ord, Hash)]
+pub struct Class(pub u64);
+
 /// Each is displayed as the number alone, with the width and the fill that are asked for.
 macro_rules! display_the_number {
     ($($number:ident)*) => {
@@ -30,4 +36,4 @@ macro_rules! display_the_number {
     };
 }
 
-display_the_number! { Line Period Start Round }
+display_the_number! { Line Period Start Round Class }

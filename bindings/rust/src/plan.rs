@@ -3,7 +3,9 @@
 use crate::answers::answers_length;
 use crate::raw;
 use crate::refusal::outcome;
-use crate::{Answered, Answers, Line, Owner, Period, Refusal, Round, Sheet, Start};
+use crate::{
+    Answered, Answers, Class, Line, Node, Owner, Period, Reason, Refusal, Round, Sheet, Start,
+};
 use std::{array, fmt};
 
 /// A plan of rounds. [`Plan::new`] is the empty one.
@@ -117,6 +119,39 @@ impl Plan {
             added,
             split: split == 1,
         })
+    }
+
+    /// The reason behind a [`Refusal::NoCandidate`]: what keeps a period from a class of a node. It is the open line of
+    /// lowest number that stands, at any depth, under an edge of the class. Where the node's step does not divide the
+    /// period, that is the reason, and the class is not looked at.
+    ///
+    /// On a plan with an open line, an open that is not refused for its line or its period is refused with
+    /// [`Refusal::NoCandidate`] if and only if this call, asked of every node and class, is never refused with
+    /// [`Refusal::NoLineInClass`].
+    ///
+    /// ```
+    /// use gaplinte::{Class, Line, Node, Period, Plan, Reason, Refusal};
+    ///
+    /// let mut plan = Plan::new();
+    /// plan.open(Line(1), Period(4))?;
+    /// plan.open(Line(2), Period(6))?;
+    /// assert_eq!(plan.open(Line(3), Period(2)), Err(Refusal::NoCandidate));
+    /// // The root has weight 2. Line 1 stands under its edge 0, in a node of step 2, and line 2 under edge 1.
+    /// let node = Node { level: 1, offset: 0 };
+    /// assert_eq!(plan.reason(Period(2), Node::ROOT, Class(1)), Ok(Reason::Line(Line(2))));
+    /// assert_eq!(plan.reason(Period(3), node, Class(0)), Ok(Reason::StepDoesNotDivide));
+    /// plan.close(Line(2))?;
+    /// assert_eq!(plan.reason(Period(2), Node::ROOT, Class(1)), Err(Refusal::NoLineInClass));
+    /// # Ok::<(), Refusal>(())
+    /// ```
+    ///
+    /// # Errors
+    ///
+    /// [`Refusal::PeriodOutOfRange`], [`Refusal::NoNode`] and, where the node's step divides the period,
+    /// [`Refusal::NoClass`] and [`Refusal::NoLineInClass`], in this sequence of checks.
+    pub fn reason(&self, period: Period, node: Node, class: Class) -> Result<Reason, Refusal> {
+        let value = raw::reason(&self.rows, period.0, node.level, node.offset, class.0);
+        outcome(value).map(Reason::told)
     }
 
     /// Closes a line.

@@ -9,6 +9,8 @@ pub const SHOWN_NUMBERS: usize = 24;
 pub const SHEET_NUMBERS: usize = 65;
 /// A value of owner or of the walker from this on says that the round is idle, and is this plus the rest.
 pub const IDLE_FROM: i64 = 64;
+/// A value of reason that is no line: the node's step does not divide the period.
+pub const STEP_DOES_NOT_DIVIDE: i64 = 64;
 
 // The only unsafe code: a foreign function can be declared and called in no other way. A reference to an array is the
 // pointer that the library takes, and lasts as long as the call. The library is proved to stay within what it is lent
@@ -24,6 +26,13 @@ mod foreign {
             line: u64,
             period: u64,
             tried: &mut [u16; 3],
+        ) -> i64;
+        pub safe fn gaplinte_reason(
+            rows: &[u16; PLAN_NUMBERS],
+            period: u64,
+            level: u64,
+            offset: u64,
+            class: u64,
         ) -> i64;
         pub safe fn gaplinte_close(rows: &mut [u16; PLAN_NUMBERS], line: u64) -> i64;
         pub safe fn gaplinte_owner(rows: &[u16; PLAN_NUMBERS], round: u64) -> i64;
@@ -82,6 +91,13 @@ pub fn open(rows: &mut [u16; PLAN_NUMBERS], line: u64, period: u64) -> i64 {
 #[must_use]
 pub fn trial(rows: &[u16; PLAN_NUMBERS], line: u64, period: u64, tried: &mut [u16; 3]) -> i64 {
     foreign::gaplinte_trial(rows, line, period, tried)
+}
+
+/// What keeps a period from a class of the node at a level and an offset; the value is the open line of lowest number
+/// that stands under an edge of the class, or [`STEP_DOES_NOT_DIVIDE`]. Refused with 2, 10, 11 or 12.
+#[must_use]
+pub fn reason(rows: &[u16; PLAN_NUMBERS], period: u64, level: u64, offset: u64, class: u64) -> i64 {
+    foreign::gaplinte_reason(rows, period, level, offset, class)
 }
 
 /// Closes a line; the value is 0. Refused with 1 or 4.

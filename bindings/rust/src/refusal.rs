@@ -2,13 +2,13 @@
 
 use std::fmt;
 
-/// Why a call was refused. The numbers are document 01's.
+/// Why a call was refused. The numbers are those of documents 01 and 02.
 #[derive(Clone, Copy, Debug, PartialEq, Eq, Hash)]
 #[repr(u8)]
 pub enum Refusal {
     /// Line above 63.
     LineAbove63 = 1,
-    /// Period 0 or above 4,095.
+    /// Period above 4,095 or, in open, trial and reason, 0.
     PeriodOutOfRange = 2,
     /// Open or trial of a line that is open.
     LineOpen = 3,
@@ -24,11 +24,17 @@ pub enum Refusal {
     AnswersTooShort = 8,
     /// Walker with either number at 2^64 - 1.
     WalkerAtEnd = 9,
+    /// No node has this level and offset.
+    NoNode = 10,
+    /// The node's step divides the period, and the class is not below d.
+    NoClass = 11,
+    /// No line stands under an edge of the class.
+    NoLineInClass = 12,
 }
 
 impl Refusal {
     /// Every refusal, in rising number.
-    pub const ALL: [Refusal; 9] = [
+    pub const ALL: [Refusal; 12] = [
         Refusal::LineAbove63,
         Refusal::PeriodOutOfRange,
         Refusal::LineOpen,
@@ -38,16 +44,19 @@ impl Refusal {
         Refusal::ListLength,
         Refusal::AnswersTooShort,
         Refusal::WalkerAtEnd,
+        Refusal::NoNode,
+        Refusal::NoClass,
+        Refusal::NoLineInClass,
     ];
 
-    /// The refusal with this number, 1 to 9.
+    /// The refusal with this number, 1 to 12.
     pub fn numbered(number: u8) -> Option<Refusal> {
         Refusal::ALL
             .into_iter()
             .find(|refusal| refusal.number() == number)
     }
 
-    /// Document 01's number.
+    /// The number that it has in document 01 or 02.
     pub fn number(self) -> u8 {
         self as u8
     }
@@ -66,6 +75,9 @@ impl Refusal {
             Refusal::ListLength => "the list is longer than 65535 bytes or ends inside an order",
             Refusal::AnswersTooShort => "the buffer has fewer than two bytes for each order",
             Refusal::WalkerAtEnd => "the walker's next round or count is 2^64 - 1",
+            Refusal::NoNode => "no node has this level and offset",
+            Refusal::NoClass => "the node has no such class for the period",
+            Refusal::NoLineInClass => "no line stands in the class",
         }
     }
 }

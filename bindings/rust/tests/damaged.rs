@@ -1,7 +1,9 @@
 //! A record that is no tree, through every call: it is treated as the empty plan, and a refused call leaves it as
 //! found.
 
-use gaplinte::{Answered, Line, Owner, Period, Plan, Refusal, Round, Start, Trial, Walker};
+use gaplinte::{
+    Answered, Class, Line, Node, Owner, Period, Plan, Refusal, Round, Start, Trial, Walker,
+};
 
 /// Records that are no tree: a number out of range, an edge not below its weight, a row after an unused one, two lines
 /// at one place, an edge without a weight, a line above another, every number alike.
@@ -73,6 +75,27 @@ fn tried() {
             assert_eq!(refused, Err(Refusal::PeriodOutOfRange));
         }
         assert_eq!(plan.trial(Line(64), Period(0)), Err(Refusal::LineAbove63));
+        assert_eq!(plan, found);
+    }
+}
+
+/// As in the empty plan, no node is there.
+#[test]
+fn asked_for_reasons() {
+    for plan in damaged() {
+        let found = plan.clone();
+        for (level, offset) in [(0, 0), (1, 0), (1, 1), (10, 1023), (u64::MAX, u64::MAX)] {
+            let node = Node { level, offset };
+            for class in [0, 1, u64::MAX].map(Class) {
+                for period in [1, 12, 4095].map(Period) {
+                    assert_eq!(plan.reason(period, node, class), Err(Refusal::NoNode));
+                }
+                for period in [0, 4096, u64::MAX].map(Period) {
+                    let refused = plan.reason(period, node, class);
+                    assert_eq!(refused, Err(Refusal::PeriodOutOfRange));
+                }
+            }
+        }
         assert_eq!(plan, found);
     }
 }

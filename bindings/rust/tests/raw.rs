@@ -28,6 +28,8 @@ fn values() {
     assert_eq!(tried, [1, 2, 1]);
     assert_eq!(rows, one_line());
     assert_eq!(raw::open(&mut rows, 6, 4), 1);
+    assert_eq!(raw::reason(&rows, 4, 0, 0, 1), 6);
+    assert_eq!(raw::reason(&rows, 2, 0, 0, 0), 5);
     assert_eq!(raw::owner(&rows, 4), 5);
     assert_eq!(raw::owner(&rows, u64::MAX - 2), 6);
     // The next owned rounds are 8 and 2^64.
@@ -54,6 +56,20 @@ fn values() {
     assert_eq!(raw::owner(&rows, 6), raw::IDLE_FROM);
     assert_eq!(raw::is_tree(&rows), 1);
     assert_eq!(raw::is_tree(&[1; raw::PLAN_NUMBERS]), 0);
+}
+
+/// Under edge 1 of the root, which has weight 2, stands a node of step 2.
+#[test]
+fn a_step_that_does_not_divide() {
+    let mut rows = [0; raw::PLAN_NUMBERS];
+    assert_eq!(raw::open(&mut rows, 0, 2), 0);
+    assert_eq!(raw::open(&mut rows, 63, 4), 1);
+    for class in [0, 1, 63, 64, u64::MAX] {
+        let reason = raw::reason(&rows, 3, 1, 1, class);
+        assert_eq!(reason, raw::STEP_DOES_NOT_DIVIDE);
+    }
+    assert_eq!(raw::reason(&rows, 4, 1, 1, 0), 63);
+    assert_eq!(raw::reason(&rows, 4, 0, 0, 0), 0);
 }
 
 /// Of the rounds 2^64 - 3 to 2^64 + 6 line 5 owns 2^64 and 2^64 + 4, line 6 owns 2^64 - 3, 2^64 + 1 and 2^64 + 5.
@@ -88,6 +104,22 @@ fn a_refusal_is_minus_its_number() {
         assert_eq!(raw::turns(&rows, line, 0, 4), answer);
         let shown = kept(&mut [7; 24], |shown| raw::show(&rows, line, shown));
         assert_eq!(shown, answer);
+    }
+    for (period, level, offset, class, answer) in [
+        (0, 9, 0, 9, -2),
+        (65_540, 0, 0, 0, -2),
+        (4, 0, 1, 9, -10),
+        (4, 1, 0, 0, -10),
+        (4, 1 << 32, 0, 0, -10),
+        (4, 0, 1 << 16, 0, -10),
+        (4, 0, 0, 4, -11),
+        (4, 0, 0, 1 << 32, -11),
+        (4, 0, 0, 1, -12),
+    ] {
+        let reason = kept(&mut rows, |rows| {
+            raw::reason(rows, period, level, offset, class)
+        });
+        assert_eq!(reason, answer);
     }
     for mut place in [[u64::MAX, 0], [0, u64::MAX], [u64::MAX; 2]] {
         assert_eq!(kept(&mut place, |place| raw::walk(&rows, place)), -9);

@@ -1,7 +1,8 @@
 //! Each refusal, by each call that can give it. A refused call leaves plan, place and buffers as found.
 
 use gaplinte::{
-    raw, Answered, Answers, Call, Line, Owner, Period, Plan, Refusal, Round, Start, Walker,
+    raw, Answered, Answers, Call, Class, Line, Node, Owner, Period, Plan, Refusal, Round, Start,
+    Walker,
 };
 
 fn one_line() -> Plan {
@@ -33,13 +34,16 @@ fn numbers() {
         Refusal::ListLength,
         Refusal::AnswersTooShort,
         Refusal::WalkerAtEnd,
+        Refusal::NoNode,
+        Refusal::NoClass,
+        Refusal::NoLineInClass,
     ]
     .map(Refusal::number);
-    assert_eq!(numbers, [1, 2, 3, 4, 5, 6, 7, 8, 9]);
+    assert_eq!(numbers, [1, 2, 3, 4, 5, 6, 7, 8, 9, 10, 11, 12]);
     assert_eq!(Refusal::ALL.map(Refusal::number), numbers);
     for number in 0..=255 {
         let refusal = Refusal::numbered(number);
-        assert_eq!(refusal.is_some(), (1..=9).contains(&number));
+        assert_eq!(refusal.is_some(), (1..=12).contains(&number));
         assert!(refusal.is_none_or(|refusal| refusal.number() == number));
     }
 }
@@ -99,6 +103,8 @@ fn period_out_of_range() {
         for line in [1, 0].map(Line) {
             assert_eq!(plan.trial(line, period), Err(Refusal::PeriodOutOfRange));
         }
+        let reason = plan.reason(period, Node::ROOT, Class(0));
+        assert_eq!(reason, Err(Refusal::PeriodOutOfRange));
         assert_eq!(pack(0, Line(1), period), Err(Refusal::PeriodOutOfRange));
         assert_eq!(
             Call::Open(Line(1), period).pack(),
@@ -114,6 +120,8 @@ fn period_out_of_range() {
         plan.trial(Line(1), Period(0)),
         Err(Refusal::PeriodOutOfRange)
     );
+    let reason = plan.reason(Period(0), Node::ROOT, Class(0));
+    assert_eq!(reason, Err(Refusal::PeriodOutOfRange));
     assert_eq!(pack(0, Line(1), Period(0)), Ok([0x01, 0x00, 0x00]));
     assert_eq!(plan, one_line());
 }
@@ -140,6 +148,21 @@ fn no_candidate() {
     let mut plan = one_line();
     assert_eq!(plan.open(Line(1), Period(3)), Err(Refusal::NoCandidate));
     assert_eq!(plan.trial(Line(1), Period(3)), Err(Refusal::NoCandidate));
+    assert_eq!(plan, one_line());
+}
+
+/// The root has weight 4, and under its edge 0 stands the line.
+#[test]
+fn no_reason() {
+    let plan = one_line();
+    let line = Node {
+        level: 1,
+        offset: 0,
+    };
+    let reason = |node, class| plan.reason(Period(4), node, Class(class));
+    assert_eq!(reason(line, 0), Err(Refusal::NoNode));
+    assert_eq!(reason(Node::ROOT, 4), Err(Refusal::NoClass));
+    assert_eq!(reason(Node::ROOT, 3), Err(Refusal::NoLineInClass));
     assert_eq!(plan, one_line());
 }
 
@@ -239,10 +262,10 @@ fn bytes_that_are_no_answers() {
     assert_eq!(told(&close, &[0x00, 0x01]), None);
     assert_eq!(told(&open, &[0x50, 0x01]), None);
     // a result that no order has, or not this one
-    for result in [1, 4, 6, 7, 8, 9, 10, 15] {
+    for result in [1, 4, 6, 7, 8, 9, 10, 11, 12, 15] {
         assert_eq!(told(&open, &[result << 4, 0x00]), None);
     }
-    for result in [1, 2, 3, 5, 6, 7, 8, 9, 10, 15] {
+    for result in [1, 2, 3, 5, 6, 7, 8, 9, 10, 11, 12, 15] {
         assert_eq!(told(&close, &[result << 4, 0x00]), None);
     }
     for result in [0, 1, 2, 3, 4, 5] {

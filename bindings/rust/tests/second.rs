@@ -1,14 +1,16 @@
 //! The same calls put to the second program, which is written from document 01 and, of document 02, Ask 1, Ask 3, Ask 4,
-//! Ask 5 and Ask 6; Ask 2 changes no answer. Every answer agrees.
+//! Ask 5, Ask 6 and Ask 7; Ask 2 changes no answer. Every answer agrees.
 
 mod drawn;
 
 use drawn::{first_round, sheet_rounds};
 use gaplinte::{
-    raw, Answered, Answers, Call, Line, Owner, Period, Plan, Refusal, Round, Start, Trial, Walker,
+    raw, Answered, Answers, Call, Class, Line, Node, Owner, Period, Plan, Reason, Refusal, Round,
+    Start, Trial, Walker,
 };
 use second::orders::{self, Order};
 use second::random::Random;
+use second::reason::{self, Asked};
 use second::record::{drawn_write, Held, Record};
 use second::shapes::Shape;
 use second::{ask, lists, sheet, tree, trial, walker};
@@ -19,6 +21,7 @@ const LISTS_OF_A_SHAPE: u64 = 100;
 const ROUNDS: u64 = 200;
 const DRAWN_PERIODS: u64 = 40;
 const SHEETS: u64 = 4;
+const REASONS: u64 = 60;
 
 /// Cut to 8, 16 or 32 bits some would be line 0 or 4.
 const LINES_ABOVE_63: [u64; 9] = [
@@ -181,6 +184,66 @@ fn same_trials(plan: &Plan, other: &tree::Plan, random: &mut Random) -> Vec<Resu
     told.collect()
 }
 
+/// What stands in the way on two plans that should have the same tree: a line or not, or the refusal.
+fn same_reason(plan: &Plan, other: &tree::Plan, asked: Asked) -> Result<bool, u8> {
+    let (level, offset) = (asked.level, asked.offset);
+    let node = Node { level, offset };
+    let told = numbered(plan.reason(Period(asked.period), node, Class(asked.class)));
+    let expected = numbered_second(reason::reason(other, asked)).map(|it| match it {
+        reason::Reason::Step => Reason::StepDoesNotDivide,
+        reason::Reason::Line(line) => Reason::Line(Line(line.into())),
+    });
+    assert_eq!(told, expected, "{asked:?}");
+    told.map(|it| it.line().is_some())
+}
+
+/// A node above an open line, or where the line itself stands. In a plan without lines the root.
+fn drawn_node(plan: &Plan, random: &mut Random) -> Node {
+    let lines: Vec<_> = plan.lines().map(|it| it.line).collect();
+    if lines.is_empty() {
+        return Node::ROOT;
+    }
+    let rows = plan.show(random.pick(&lines)).unwrap().rows;
+    let used = rows.iter().filter(|row| row.weight > 0).count();
+    let level = random.below(used as u64 + 1);
+    let (mut step, mut offset) = (1, 0);
+    for row in &rows[..level as usize] {
+        offset += u64::from(row.edge) * step;
+        step *= u64::from(row.weight);
+    }
+    Node { level, offset }
+}
+
+/// Mostly the number; else one more, one with the same lowest bits, or any.
+fn number_or_other(number: u64, random: &mut Random) -> u64 {
+    match random.below(40) {
+        0 => number + 1,
+        1 => number + 65_536,
+        2 => number + (1 << 32),
+        3 => random.draw(),
+        _ => number,
+    }
+}
+
+/// Reasons at nodes, where lines stand and where nothing stands, mostly for periods in range.
+fn same_reasons(plan: &Plan, other: &tree::Plan, random: &mut Random) -> Vec<Result<bool, u8>> {
+    let mut periods = periods_to_try(plan, random);
+    periods.retain(|period| (1..=4095).contains(period));
+    let told = (0..REASONS).map(|_| {
+        let node = drawn_node(plan, random);
+        let below = 1 << random.below(6);
+        let class = random.below(below);
+        let asked = Asked {
+            period: number_or_other(random.pick(&periods), random),
+            level: number_or_other(node.level, random),
+            offset: number_or_other(node.offset, random),
+            class: number_or_other(class, random),
+        };
+        same_reason(plan, other, asked)
+    });
+    told.collect()
+}
+
 /// Owner, show, turns, sheets, the open lines and the walker on two plans that should have the same tree.
 fn ask_both(plan: &Plan, other: &tree::Plan, random: &mut Random) {
     same_owners(plan, other, rounds(random));
@@ -323,6 +386,27 @@ fn trials() {
     assert!(seen.values().all(|&count| count > 1000), "{seen:?}");
 }
 
+/// Each refusal of the call, steps that do not divide the period and lines are seen often.
+#[test]
+fn reasons() {
+    let mut random = Random::new(20);
+    let mut seen = BTreeMap::new();
+    for list in lists() {
+        let mut plan = Plan::new();
+        let mut other = tree::Plan::empty();
+        for orders in list.chunks(3 * 32) {
+            let answers = plan.run_list(orders).unwrap().into_iter().map(numbered);
+            assert!(answers.eq(told_by_second(&mut other, orders)));
+            for told in same_reasons(&plan, &other, &mut random) {
+                *seen.entry(told).or_insert(0) += 1;
+            }
+        }
+    }
+    let kinds = [Ok(false), Ok(true), Err(2), Err(10), Err(11), Err(12)];
+    assert!(seen.keys().eq(&kinds), "{seen:?}");
+    assert!(seen.values().all(|&count| count > 400), "{seen:?}");
+}
+
 fn numbers(record: &Record) -> [u16; raw::PLAN_NUMBERS] {
     array::from_fn(|place| record.number(place))
 }
@@ -352,6 +436,7 @@ fn damaged_records() {
             same_turns(&plan, &held.plan, random.pick(&lines), &mut random);
             same_sheet(&plan, &held.plan, &mut random);
             same_trials(&plan, &held.plan, &mut random);
+            same_reasons(&plan, &held.plan, &mut random);
             let answer = plan.close(Line(line));
             assert_eq!(numbered(answer), numbered_second(held.close(line)));
             let _ = same_trial(&plan, &held.plan, line, period);

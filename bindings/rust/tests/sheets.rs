@@ -2,20 +2,20 @@
 //! the owner call, or given by the turns call.
 
 mod drawn;
+mod overwritten;
 mod plans;
 
 use drawn::{first_round, sheet_rounds};
 use gaplinte::{Line, OpenLine, Owner, Period, Plan, Refusal, Round, Sheet, Start};
+use overwritten::each_overwritten;
 use plans::{case_f, opened, CASE_A, CASE_C};
 use second::lists;
 use second::random::Random;
-use second::record::{drawn_write, Held};
 use second::shapes::Shape;
 use std::array;
 
 const LISTS_OF_A_SHAPE: usize = 30;
 const DAMAGED_OF_A_SHAPE: usize = 60;
-const WRITES: usize = 8;
 const ROUNDS: u16 = 1000;
 const MOST: u16 = u16::MAX;
 
@@ -229,26 +229,17 @@ fn walked_after_lists() {
 /// Records with numbers written over. One that is no tree is the empty plan to a sheet.
 #[test]
 fn damaged_records() {
-    let mut random = Random::new(21);
     let mut seen = [0; 2];
-    for shape in Shape::ALL.repeat(DAMAGED_OF_A_SHAPE) {
-        let list = lists::generate(shape, &mut random);
-        let mut held = Held::empty();
-        held.run(&list, &mut vec![0; list.len()]).unwrap();
-        for _ in 0..WRITES {
-            let (place, number) = drawn_write(&held.record, &mut random);
-            held.write(place, number);
-            let plan = Plan::from_record(array::from_fn(|place| held.record.number(place)));
-            seen[usize::from(plan.is_tree())] += 1;
-            let (first, rounds) = (first_round(&mut random), sheet_rounds(&mut random));
-            if plan.is_tree() {
-                let sheet = sheet_of(&plan, first, rounds);
-                assert_eq!(sheet.turns, turns(&plan, first, rounds));
-            } else {
-                expect(&plan, first, rounds, figures(&[], rounds));
-            }
+    each_overwritten(21, DAMAGED_OF_A_SHAPE, |plan, random| {
+        seen[usize::from(plan.is_tree())] += 1;
+        let (first, rounds) = (first_round(random), sheet_rounds(random));
+        if plan.is_tree() {
+            let sheet = sheet_of(plan, first, rounds);
+            assert_eq!(sheet.turns, turns(plan, first, rounds));
+        } else {
+            expect(plan, first, rounds, figures(&[], rounds));
         }
-    }
+    });
     assert!(seen.iter().all(|&count| count > 100), "{seen:?}");
 }
 

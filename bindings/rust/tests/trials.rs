@@ -1,16 +1,16 @@
 //! A trial: what an open would bring about. What is expected is worked out from the rules of documents 01 and 02, or
 //! counted in the records before and after the open.
 
+mod overwritten;
+
 use gaplinte::{raw, Call, Line, Period, Plan, Refusal, Start, Trial};
+use overwritten::each_overwritten;
 use second::lists;
 use second::random::Random;
-use second::record::{drawn_write, Held};
 use second::shapes::Shape;
-use std::array;
 use std::collections::{BTreeMap, BTreeSet};
 
 const LISTS_OF_A_SHAPE: u64 = 100;
-const WRITES: u64 = 8;
 
 /// Start, nodes added and whether a node is split.
 type Told = Result<(u64, u16, bool), Refusal>;
@@ -444,23 +444,14 @@ fn trial_of_a_first_line(line: Line, period: Period) -> Result<Trial, Refusal> {
 /// Records with numbers written over. One that is no tree is the empty plan to a trial.
 #[test]
 fn damaged_records() {
-    let mut random = Random::new(17);
     let mut seen = [0; 2];
-    for shape in Shape::ALL.repeat(50) {
-        let list = lists::generate(shape, &mut random);
-        let mut held = Held::empty();
-        held.run(&list, &mut vec![0; list.len()]).unwrap();
-        for _ in 0..WRITES {
-            let (place, number) = drawn_write(&held.record, &mut random);
-            held.write(place, number);
-            let plan = Plan::from_record(array::from_fn(|place| held.record.number(place)));
-            let (line, period) = (Line(random.below(66)), Period(random.below(4098)));
-            let told = open_as_tried(&mut plan.clone(), line, period);
-            seen[usize::from(plan.is_tree())] += 1;
-            if !plan.is_tree() {
-                assert_eq!(told, trial_of_a_first_line(line, period));
-            }
+    each_overwritten(17, 50, |plan, random| {
+        let (line, period) = (Line(random.below(66)), Period(random.below(4098)));
+        let told = open_as_tried(&mut plan.clone(), line, period);
+        seen[usize::from(plan.is_tree())] += 1;
+        if !plan.is_tree() {
+            assert_eq!(told, trial_of_a_first_line(line, period));
         }
-    }
+    });
     assert!(seen.iter().all(|&count| count > 100), "{seen:?}");
 }

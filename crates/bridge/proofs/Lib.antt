@@ -26,6 +26,7 @@ pub mod ClosedRecord
 pub mod RecordRoundTrip
 pub mod BookedRecord
 pub mod TrialOnPaths
+pub mod ReasonOnPaths
 pub mod FirstRecord
 pub mod SpotFacts
 pub mod CallsOnRecords

@@ -1,4 +1,4 @@
--- The nodes of a tree are the levels of its lines' paths, and the present edges of a node those that lines through it take there.
+-- The nodes of a tree are the levels of its lines' paths, and a line that stands under an edge of a node has a path that takes it there.
 -- Assumes nothing.
 use Prim.Native.Nat.{ℕ, zero, suc, ◌+◌, ◌*◌, ◌/◌, ◌%◌, ◌<◌}
 use native.Mathlib.Omega.{arith}
@@ -20,7 +20,6 @@ use Rattle.tree.specs.Shape.{Legal}
 use Rattle.paths.specs.Rules.{row_of, same_node}
 use Rattle.tree.proofs.Digits.{digit_low, digit_high}
 use Rattle.tree.proofs.Searching.{some_below_true}
-use Rattle.tree.proofs.UnderEdge.{stands_present}
 use Rattle.tree.proofs.Proper.{Proper, legal_proper}
 use Rattle.tree.proofs.Standing.{path_of_line, path_below, path_stands, sum_row}
 use Rattle.tree.proofs.CandidatePlaces.{at_under}
@@ -138,10 +137,6 @@ pub record LineThrough (t : Tree) (a : Place) (w e : ℕ) : Type 0 where
   pub offset_is : sum (take a.level rows) ≡ a.offset
   pub row_is : row_of a.level rows ≡ row w e
 
-pub through_edge_below : (t : Tree) (a : Place) (w e : ℕ) → LineThrough t a w e → e < w
-through_edge_below t a w e x =
-    rw x.row_is at (path_node x.line t a.level x.rows x.path_is x.level_below).edge_below
-
 path_line_below : (M : ℕ) (t : Tree) (rs : List Row) → Legal t → path M t ≡ Some rs → M < 64
 path_line_below M t rs legal h = let small = stands_number M t _ _ legal (path_stands M t rs h) in omega arith
 
@@ -154,25 +149,34 @@ module _ (t : Tree) (legal : Legal t) (a : Place) (w : ℕ) (f : ℕ → Tree) (
   unfolding present
   place_present = ap present here
 
-  line_through : (e : ℕ) → e < w → present (f e) ≡ true → LineThrough t a w e
+  -- a line that stands under an edge has a path that takes that edge
+  pub path_through_edge : (e N : ℕ) (rs : List Row) → e < w → path N (f e) ≡ Some rs → (x : LineThrough t a w e) × (x.line ≡ N)
   unfolding Proper at way row_of
-  line_through e below there =
-      let x = present_path (f e) (node_proper.2 e) there in
-      let rest = row w e ∷ x.1 in
-      let in_node : path x.0 (at a t) ≡ Some rest = rw here (path_under x.0 w f e x.1 node_proper.1 below x.2) in
-      let whole = path_through x.0 a.level a.offset t rest (legal_proper t legal) in_node in
+  path_through_edge e N rs below h =
+      let rest = row w e ∷ rs in
+      let in_node : path N (at a t) ≡ Some rest = rw here (path_under N w f e rs node_proper.1 below h) in
+      let whole = path_through N a.level a.offset t rest (legal_proper t legal) in_node in
       let long = way_length a.level a.offset t place_present in
-      let above = take_at (way a t) rest a.level long in
-      record {
-        line = x.0;
-        rows = way a t ++ rest;
-        line_below = path_line_below x.0 t (way a t ++ rest) legal whole;
-        path_is = whole;
-        level_below = omega (arith, length-append (way a t) rest);
-        rows_above = above;
-        offset_is = ap sum above ∙ way_sum a.level a.offset t place_present;
-        row_is = get_or_at (way a t) (row w e) x.1 (row 0 0) a.level long;
-      }
+      let above = take_at (way a t) rest a.level long in (
+        record {
+          line = N;
+          rows = way a t ++ rest;
+          line_below = path_line_below N t (way a t ++ rest) legal whole;
+          path_is = whole;
+          level_below = omega (arith, length-append (way a t) rest);
+          rows_above = above;
+          offset_is = ap sum above ∙ way_sum a.level a.offset t place_present;
+          row_is = get_or_at (way a t) (row w e) rs (row 0 0) a.level long;
+        },
+        refl,
+      )
+
+  -- a present edge is one that a line takes
+  pub present_through : (e : ℕ) → e < w → present (f e) ≡ true → LineThrough t a w e
+  unfolding Proper
+  present_through e below there =
+      let x = present_path (f e) (node_proper.2 e) there in
+      (path_through_edge e x.0 x.1 below x.2).0
 
   -- under the edge that a path takes at the node, the path goes on, and the path's next level is there
   pub under_edge_taken :
@@ -185,21 +189,12 @@ module _ (t : Tree) (legal : Legal t) (a : Place) (w : ℕ) (f : ℕ → Tree) (
       let under_edge : y.edges (row_of a.level qs).edge ≡ f (row_of a.level qs).edge = cc in
       (ap (path N) (sym under_edge) ∙ y.path_is, y.below_is ∙ under_edge)
 
-  through_present : (e : ℕ) → LineThrough t a w e → present (f e) ≡ true
-  through_present e x =
-      let under_edge = (under_edge_taken x.line x.rows x.path_is x.level_below x.offset_is).0 in
-      ap (λ (r : Row). present (f r.edge)) (sym x.row_is) ∙ stands_present x.line _ _ _ (path_stands x.line _ _ under_edge)
-
-  -- an edge is present exactly when a line takes it
-  pub edge_present : (e : ℕ) → e < w → (present (f e) ≡ true) ↔ LineThrough t a w e
-  edge_present e below = (line_through e below, through_present e)
-
   -- some line goes through the node
   pub node_path : (e : ℕ) × LineThrough t a w e
   unfolding Proper
   node_path =
       let x = some_below_true w _ node_proper.1.not_empty in
-      (x.0, line_through x.0 x.1 x.2)
+      (x.0, present_through x.0 x.1 x.2)
 
 -- Two paths go through the same node
 
@@ -242,22 +237,6 @@ module _ (M : ℕ) (t : Tree) (l : ℕ) (rs : List Row) (h : path M t ≡ Some r
       let one_node =
       sym y.node_is ∙ ap (λ (above : List Row). at (record { level = l; offset = sum above }) t) both.0 ∙ x.node_is in
       cc
-
-  pub same_node_through :
-      (N : ℕ) (qs : List Row) → N < 64 → path N t ≡ Some qs → same_node l rs qs ≡ true →
-      LineThrough t (place_on l rs) (row_of l rs).weight (row_of l qs).edge
-  same_node_through N qs below k same =
-      let both = (same_node_exactly M N t l rs qs h k long).0 same in
-      record {
-        line = N;
-        rows = qs;
-        line_below = below;
-        path_is = k;
-        level_below = both.1;
-        rows_above = both.0 ∙ sym (path_node M t l rs h long).way_is;
-        offset_is = ap sum both.0;
-        row_is = λ i. row (same_node_weight N qs k same i) (row_of l qs).edge;
-      }
 
   pub through_same_node : (w e : ℕ) (x : LineThrough t (place_on l rs) w e) → same_node l rs x.rows ≡ true
   through_same_node w e x =

@@ -1,4 +1,4 @@
--- A period of any size, asked as `tree::period_asked` hands it on: the open is answered, the record left, and the trial told, as for the period itself.
+-- A period of any size, asked as `tree::period_asked` hands it on: the open is answered, the record left, and trial and reason told, as for the period itself.
 -- Assumes nothing.
 use Rattle.std.specs.Prelude.{if◌then◌else◌, Some}
 use Prim.Native.Nat.{ℕ, ◌<◌}
@@ -9,11 +9,11 @@ use mathlib.Core.Bool.{Bool, true, false}
 use mathlib.Core.List.{List}
 use lib.Dec.{ltb}
 use borrow.Author.Tests.{ltb-true}
-use Rattle.tree.specs.Tree.{Tree}
+use Rattle.tree.specs.Tree.{Tree, Place}
 use Rattle.tree.specs.Refusals.{open_refusal}
-use Rattle.tree.specs.Calls.{open_line, Answer, refusal, answer_unless, answer, gives_unless}
+use Rattle.tree.specs.Calls.{open_line, Answer, refusal, answer_unless, answer, gives_unless, reason_outcome}
 use Rattle.tree.specs.Trial.{trial_outcome}
-use Rattle.tree.proofs.Checks.{open_refused_1, open_refused_2, above_out_of_range}
+use Rattle.tree.proofs.Checks.{open_refused_1, open_refused_2, above_out_of_range, reason_refused_2}
 use Rattle.bridge.specs.Rows.{tree_of_rows, rows_unless, rows_after, CarriedOut}
 
 -- 4,096 and every period above 4,095 are refused alike, with 1 or 2
@@ -48,3 +48,13 @@ trial_stands_for L p t = by_test (ltb 4095 p) refl
     by_test : (b : Bool) → ltb 4095 p ≡ b → trial_outcome L (if b then 4096 else p) t ≡ trial_outcome L p t
     by_test false e = refl
     by_test true e = let alike = refused_alike L p t (ltb-true 4095 p e) in rw (alike.1, alike.2)
+
+pub reason_stands_for : (p : ℕ) (a : Place) (i : ℕ) (t : Tree) → reason_outcome (if ltb 4095 p then 4096 else p) a i t ≡ reason_outcome p a i t
+unfolding reason_outcome gives_unless
+reason_stands_for p a i t = by_test (ltb 4095 p) refl
+  where
+    by_test : (b : Bool) → ltb 4095 p ≡ b → reason_outcome (if b then 4096 else p) a i t ≡ reason_outcome p a i t
+    by_test false e = refl
+    by_test true e =
+        let large : 4095 < p = ltb-true 4095 p e in
+        rw (reason_refused_2 4096 a i t (above_out_of_range 4096 (omega arith) (omega arith)), reason_refused_2 p a i t (above_out_of_range p (omega arith) large))

@@ -24,8 +24,8 @@ use Rattle.tree.proofs.Standing.{path_of_line}
 use Rattle.tree.proofs.Depth.{at_most_11_above}
 use Rattle.paths.proofs.RowLaws.{some_rows}
 use Rattle.paths.proofs.SameNode.{same_node_goes_on}
-use Rattle.bridge.proofs.NodesOnPaths.{place_on, same_node_exactly, under_edge_taken, edge_present, node_path, through_same_node}
-use Rattle.bridge.proofs.ClassOnPaths.{PathsOf, path_family, family_path, node_on_path}
+use Rattle.bridge.proofs.NodesOnPaths.{place_on, present_through, node_path, through_same_node}
+use Rattle.bridge.proofs.ClassOnPaths.{PathsOf, path_family, family_path, node_on_path, same_node_under}
 use Rattle.bridge.proofs.SameTree.{path_goes_on}
 
 -- a path without rows leads to the line itself
@@ -74,7 +74,7 @@ module _ (t : Tree) (legal : Legal t) (family : Family) (paths : PathsOf t famil
     none_under : (e n : ℕ) → e < weight → line_under family (family M) l e ≡ None → owner n (edges e) ≡ None
     unfolding line_under
     none_under e n edge_below h = absent_no_owner n (edges e) (not-eq-not.0 λ there.
-        let x = (edge_present t legal (place_on l (family M)) weight edges node_is e edge_below).0 there in
+        let x = present_through t legal (place_on l (family M)) weight edges node_is e edge_below there in
         let rows = path_family t family paths x.line x.rows x.line_below x.path_is in
         let untaken = smallest_none 64 _ h x.line x.line_below in
         true≢false (sym (rw (rows, through_same_node M t l (family M) standing long weight e x, x.row_is) (eq-eqb e e refl)) ∙ untaken))
@@ -91,15 +91,13 @@ module _ (t : Tree) (legal : Legal t) (family : Family) (paths : PathsOf t famil
     some_under e N h =
         let x = smallest_some 64 _ N h in
         let both = (and-eq-true_iff (same_node l (family M) (family N)) (eqb (row_of l (family N)).edge e)).0 x.passes in
-        let standing_too = family_path t family paths N l x.in_range (same_node_goes_on l (family M) (family N) both.0).1 in
-        let rows = (same_node_exactly M N t l (family M) (family N) standing standing_too long).0 both.0 in
-        let goes_on = under_edge_taken t legal (place_on l (family M)) weight edges node_is N (family N) standing_too rows.1 (ap sum rows.0) in
+        let goes_on = same_node_under t legal family paths M l below long N x.in_range both.0 in
         let edge : (row_of l (family N)).edge ≡ e = eqb-true (row_of l (family N)).edge e both.1 in
         record {
           line_below = x.in_range;
-          level_below = rows.1;
-          path_is = rw edge at goes_on.0;
-          below_is = rw edge at goes_on.1;
+          level_below = (same_node_goes_on l (family M) (family N) both.0).1;
+          path_is = rw edge at goes_on.1;
+          below_is = rw edge at goes_on.2;
         }
 
     ends_at_edge : (e N k : ℕ) → Taking e N → length (family N) ≡ suc l → owner k (edges e) ≡ Some N

@@ -8,6 +8,7 @@ ghost use Rattle.plan.specs.Walker.{WalkedOn};
 
 use plan::ask::Shown;
 use plan::walker::{Walked, WalkerPlace};
+use reasons::Reason;
 use test_script::{Step, begin, print_owner, run_owner, run_script, write_number};
 use tree::{Period, Plan, Row};
 
@@ -82,6 +83,16 @@ fn run_trial(rt: &impl Print, plan: &Plan, line: u64, period: u64) {
     };
 }
 
+// The line that stands in the class, or that the step does not divide the period.
+fn run_reason(rt: &impl Print, plan: &Plan, period: u64, level: u64, offset: u64, class: u64) {
+    let _ = print!(rt; "reason {period} {level} {offset} {class} ");
+    let _ = match plan::reason::reason(plan, period_of(period), level, offset, class) {
+        Ok(Reason::Line(line)) => println!(rt; "0 line {line}"),
+        Ok(Reason::StepDoesNotDivide) => println!(rt; "0 step"),
+        Err(refusal) => println!(rt; "{} -", u8::from(refusal)),
+    };
+}
+
 // The form of the walker, the place before the call, the answer, and the place after it.
 fn print_walk(rt: &impl Print, form: &str, before: WalkerPlace, walked: Walked) {
     let _ = print!(rt; "{form} {} {} ", before.next, before.owned);
@@ -113,7 +124,7 @@ fn run_walk(rt: &impl Print, plan: &Plan, place: WalkerPlace) {
 // One step: a call that changes the plan, the empty plan again, a number written over, or a call that asks.
 // The kind is matched as the script's number: so each stands once, beside what it runs, where an enum would name it three times.
 fn run_step(rt: &impl Print, plan: Plan, step: Step) -> Plan {
-    let [first, second, third] = step.numbers;
+    let [first, second, third, fourth] = step.numbers;
     match step.kind {
         0 => return run_open(rt, plan, first, second),
         1 => return run_close(rt, plan, first),
@@ -124,6 +135,7 @@ fn run_step(rt: &impl Print, plan: Plan, step: Step) -> Plan {
         6 => run_turns(rt, &plan, first, second, (third % (1 << 32)) as u32),
         8 => run_trial(rt, &plan, first, second),
         9 => run_sheet(rt, &plan, first, (second % (1 << 16)) as u16),
+        10 => run_reason(rt, &plan, first, second, third, fourth),
         _ => {
             let place = WalkerPlace {
                 next: first,

@@ -62,7 +62,7 @@ module _ (rows : List ℕ) {node : PathNode} (node_of : NodeOf (path_at rows) no
 
 -- w was read as the node's weight, and d is its divisor: what the node offers
 module _ (rows : List ℕ) {node : PathNode} (node_of : NodeOf (path_at rows) node) (p : ℕ) {w d : ℕ} (divided : divides node.step p ≡ true) (read : w ≡ (row_at rows node.line.number node.level).weight) (common : d ≡ gcd w (p / node.step)) where
-  divisor_is : divisor p node.step (row_of node.level (path_at rows node.line.number)).weight ≡ d
+  pub divisor_is : divisor p node.step (row_of node.level (path_at rows node.line.number)).weight ≡ d
   unfolding divisor
   divisor_is = rw (weight_read rows node.line.number node_of.on_path read) (sym common)
 

@@ -1,17 +1,17 @@
 -- When two paths go through one node, and that the node offers the same on both: so a node is looked at once.
 -- Assumes nothing.
 use Rattle.std.specs.Prelude.{if◌then◌else◌, Option, None, Some, option_map}
-use Prim.Native.Nat.{ℕ, zero, suc, ◌+◌, ◌*◌, ◌<◌, ◌≤◌}
+use Prim.Native.Nat.{ℕ, zero, suc, ◌+◌, ◌*◌, ◌%◌, ◌<◌, ◌≤◌}
 use native.Mathlib.Omega.{arith}
-use mathlib.Core.Path.{◌≡◌, refl, sym, ◌∙◌, ap}
-use mathlib.Core.Bool.{Bool, true, false, false≢true, and-eq-true_iff}
+use mathlib.Core.Path.{◌≡◌, refl, sym, ◌∙◌, ap, fun_ext}
+use mathlib.Core.Bool.{Bool, true, false, not, ◌&&◌, false≢true, and-eq-true_iff}
 use mathlib.Core.List.{List, [], ◌∷◌}
 use lib.Dec.{eqb}
 use lib.ListN.{length, take}
 use borrow.Author.Tests.{eqb-true, eq-eqb}
 use Rattle.tree.specs.declared.Row.{Row}
 use Rattle.tree.specs.Numbers.{divides}
-use Rattle.tree.specs.Search.{smaller_by}
+use Rattle.tree.specs.Search.{smallest, some_below, smaller_by}
 use Rattle.tree.specs.Tree.{product, sum}
 use Rattle.tree.specs.Opening.{divisor}
 use Rattle.tree.specs.Record.{path_at, parts, no_rows, together, legal}
@@ -96,7 +96,9 @@ offer M l m r d b i = if b then option_map (λ c. record { line = M; level = l; 
 
 same_class : (family : Family) (ps qs : List Row) (l d : ℕ) → same_node l ps qs ≡ true → class_on_path family ps l d ≡ class_on_path family qs l d
 unfolding class_on_path class_taken
-same_class family ps qs l d meet = simp (same_node_either l ps qs meet)
+same_class family ps qs l d meet =
+    ap (λ (through : ℕ → Bool). smallest d (λ i. not (some_below 64 (λ M. through M && eqb ((row_of l (family M)).edge % d) i))))
+    (fun_ext λ M. same_node_either l ps qs meet (family M))
 
 -- offers that differ in the line alone are no better together
 other_line : (M L l m r d : ℕ) (b : Bool) (i : Option ℕ) (o : Option Spot) → NoBetter (offer M l m r d b i) o → NoBetter (offer L l m r d b i) o

@@ -1,22 +1,23 @@
--- An answer of a call tells its outcome, since no refusal is 0: the calls refuse with 1 to 9 alone, and every value is below 2^32.
+-- An answer of a call tells its outcome, since no refusal is 0: the calls refuse with 1 to 12 alone, and every value is below 2^32.
 -- Assumes nothing.
 use Rattle.std.specs.Prelude.{if◌then◌else◌, Option, None, Some}
 use Prim.Native.Nat.{ℕ, zero, suc, ◌-◌, ◌^◌, ◌%◌, ◌<◌, ◌≤◌}
 use native.Mathlib.Omega.{arith}
 use mathlib.Core.Path.{◌≡◌, refl, ◌∙◌, ap}
-use mathlib.Core.Bool.{Bool, true, false, not}
-use mathlib.Core.List.{List}
+use mathlib.Core.Bool.{Bool, true, false}
+use mathlib.Core.List.{List, [], ◌∷◌}
 use lib.IntN.{ℤ, negsuc}
 use lib.ListN.{length}
 use mir.Syntax.{Width, w8, w16, w32, w64, w128}
 use mir.Val.{bits, SFits, to_z}
 use mir.ValLaws.{to_z-of_z}
-use Rattle.tree.specs.Tree.{Tree, is_open}
+use Rattle.tree.specs.Tree.{Tree, Place}
 use Rattle.tree.specs.Shape.{Legal}
 use Rattle.tree.specs.Opening.{opened, start_given}
 use Rattle.tree.specs.Asking.{owner_or_rest}
-use Rattle.tree.specs.Refusals.{first_refusal, line_above_63, line_refusal}
-use Rattle.tree.specs.Calls.{Call, open_line, close_line, refusal, reply, answer_unless, answer, Outcome, gives, refuses, gives_unless, show_outcome, turns_outcome}
+use Rattle.tree.specs.Reason.{reason}
+use Rattle.tree.specs.Refusals.{Check, refuse, first_refusal, line_refusal, reason_refusal}
+use Rattle.tree.specs.Calls.{Call, open_line, close_line, refusal, reply, answer_unless, answer, Outcome, gives, refuses, gives_unless, show_outcome, turns_outcome, reason_outcome}
 use Rattle.tree.specs.Trial.{trial_outcome}
 use Rattle.tree.specs.Record.{legal}
 use Rattle.tree.proofs.Standing.{start_below_period}
@@ -28,14 +29,14 @@ use Rattle.bridge.proofs.TreeOfRecord.{legal_on_record}
 use Rattle.plan.specs.declared.walker.WalkerPlace.{WalkerPlace}
 use Rattle.plan.specs.Walker.{at_end, walk_outcome}
 use Rattle.orders.specs.Order.{order_of}
-use Rattle.orders.specs.Packing.{kind_above_1, period_above_4095, close_with_period, packing_refusal, packing}
+use Rattle.orders.specs.Packing.{packing_refusal, packing}
 use Rattle.orders.specs.Reading.{reading}
-use Rattle.lists.specs.Lists.{length_refused, room_refused, list_refusal}
-use Rattle.lists.proofs.AnswersFit.{Small, small_if, refusal_small, reading_small}
+use Rattle.lists.specs.Lists.{list_refusal}
+use Rattle.lists.proofs.AnswersFit.{Small, refusal_small, reading_small}
 use Rattle.gaplinte.specs.Answer.{answer_number, zero_value, outcome_told, InRange, Tells, narrowed}
-use Rattle.gaplinte.specs.Served.{change_outcome, ChangeServed, owner_value, owner_outcome, tree_outcome, ShowServed, TrialServed, SheetServed, walk_value, place_of, WalkServed, list_outcome, ListServed}
+use Rattle.gaplinte.specs.Served.{change_outcome, ChangeServed, owner_value, owner_outcome, tree_outcome, ShowServed, TrialServed, reason_number, SheetServed, walk_value, place_of, WalkServed, list_outcome, ListServed}
 use Rattle.gaplinte.specs.OrdersServed.{bytes_in, PackServed, ReadServed}
-use Rattle.gaplinte.proofs.ValuesBelow.{owner_at_most}
+use Rattle.gaplinte.proofs.ValuesBelow.{owner_at_most, reason_at_most}
 
 -- An outcome in range is told
 
@@ -70,36 +71,65 @@ refusal_survives w (suc n) narrow range = ap (to_z w) (lowest_bits w narrow) ∙
 
 -- The refusals of the calls
 
-line_small : (L : ℕ) (t : Tree) → Small (line_refusal L t)
-unfolding Small line_refusal first_refusal
-line_small L t = small_if (line_above_63 L) 1 _ (omega arith) (small_if (not (is_open L t)) 4 _ (omega arith) tt)
+-- a refusal in range, if it is one
+RefusalInRange : Option ℕ → Type 0
+RefusalInRange None = Unit
+RefusalInRange (Some n) = InRange (refuses n)
 
-list_small : (n room : ℕ) → Small (list_refusal n room)
-unfolding Small list_refusal first_refusal
-list_small n room = small_if (length_refused n) 7 _ (omega arith) (small_if (room_refused n room) 8 _ (omega arith) tt)
+-- one of fewer digits is
+small_in_range : (o : Option ℕ) → Small o → RefusalInRange o
+unfolding RefusalInRange InRange Small
+small_in_range None small = tt
+small_in_range (Some n) small = (omega (arith, small.0), omega (arith, small.1))
 
-packing_small : (k L p : ℕ) → Small (packing_refusal k L p)
-unfolding Small packing_refusal first_refusal
-packing_small k L p =
-    small_if (kind_above_1 k) 6 _ (omega arith)
-    (small_if (line_above_63 L) 1 _ (omega arith)
-    (small_if (period_above_4095 p) 2 _ (omega arith) (small_if (close_with_period k p) 6 _ (omega arith) tt)))
+-- each of these checks refuses with a number in range
+EachInRange : List Check → Type 0
+EachInRange [] = Unit
+EachInRange (refuse n strikes ∷ checks) = InRange (refuses n) × EachInRange checks
+
+first_in_range : (checks : List Check) → EachInRange checks → RefusalInRange (first_refusal checks)
+unfolding RefusalInRange EachInRange first_refusal
+first_in_range [] each = tt
+first_in_range (refuse n true ∷ checks) each = each.0
+first_in_range (refuse n false ∷ checks) each = first_in_range checks each.1
+
+line_refusal_in_range : (L : ℕ) (t : Tree) → RefusalInRange (line_refusal L t)
+unfolding EachInRange InRange line_refusal
+line_refusal_in_range L t = first_in_range _ ((omega arith, omega arith), ((omega arith, omega arith), tt))
+
+list_refusal_in_range : (n room : ℕ) → RefusalInRange (list_refusal n room)
+unfolding EachInRange InRange list_refusal
+list_refusal_in_range n room = first_in_range _ ((omega arith, omega arith), ((omega arith, omega arith), tt))
+
+packing_refusal_in_range : (k L p : ℕ) → RefusalInRange (packing_refusal k L p)
+unfolding EachInRange InRange packing_refusal
+packing_refusal_in_range k L p =
+    first_in_range _ ((omega arith, omega arith), ((omega arith, omega arith), ((omega arith, omega arith), ((omega arith, omega arith), tt))))
+
+reason_refusal_in_range : (p : ℕ) (a : Place) (i : ℕ) (t : Tree) → RefusalInRange (reason_refusal p a i t)
+unfolding EachInRange InRange reason_refusal
+reason_refusal_in_range p a i t =
+    first_in_range _ ((omega arith, omega arith), ((omega arith, omega arith), ((omega arith, omega arith), ((omega arith, omega arith), tt))))
 
 -- Their outcomes are in range
 
-refused_in_range : (n : ℕ) → (0 < n) × (n < 10) → InRange (refuses n)
-unfolding InRange
-refused_in_range n small = (omega (arith, small.0), omega (arith, small.1))
+value_in_range : (o : Option ℕ) (n : ℕ) → RefusalInRange o → n < 2 ^ 32 → InRange (gives_unless o n)
+unfolding RefusalInRange InRange gives_unless
+value_in_range None n range below = below
+value_in_range (Some k) n range below = range
 
-value_in_range : (o : Option ℕ) (n : ℕ) → Small o → n < 2 ^ 32 → InRange (gives_unless o n)
-unfolding Small InRange gives_unless
-value_in_range None n small most = most
-value_in_range (Some k) n small most = refused_in_range k small
+zero_in_range : {A : Type 0} (o : Option ℕ) (a : A) → RefusalInRange o → InRange (zero_value (gives_unless o a))
+unfolding RefusalInRange InRange zero_value gives_unless
+zero_in_range None a range = omega arith
+zero_in_range (Some k) a range = range
 
-zero_in_range : {A : Type 0} (o : Option ℕ) (a : A) → Small o → InRange (zero_value (gives_unless o a))
-unfolding Small InRange zero_value gives_unless
-zero_in_range None a small = omega arith
-zero_in_range (Some k) a small = refused_in_range k small
+reason_in_range : (p : ℕ) (a : Place) (i : ℕ) (t : Tree) → InRange (reason_number (reason_outcome p a i t))
+unfolding RefusalInRange InRange reason_outcome gives_unless reason_number
+reason_in_range p a i t = by_refusal (reason_refusal p a i t) (reason_refusal_in_range p a i t)
+  where
+    by_refusal : (o : Option ℕ) → RefusalInRange o → InRange (reason_number (gives_unless o (reason p a i t)))
+    by_refusal None range = omega (arith, reason_at_most p a i t)
+    by_refusal (Some n) range = range
 
 -- a start is below 4,095, the largest period
 reply_in_range : (c : Call) (t : Tree) → Legal t → refusal c t ≡ None → InRange (change_outcome (reply c t))
@@ -111,23 +141,23 @@ reply_in_range (open_line L p) t is_legal allowed =
 reply_in_range (close_line L) t is_legal allowed = omega arith
 
 change_in_range : (c : Call) (t : Tree) → Legal t → InRange (change_outcome (answer c t))
-unfolding Small answer answer_unless change_outcome
-change_in_range c t is_legal = by_refusal (refusal c t) refl (refusal_small c t)
+unfolding RefusalInRange InRange answer answer_unless change_outcome
+change_in_range c t is_legal = by_refusal (refusal c t) refl (small_in_range _ (refusal_small c t))
   where
-    by_refusal : (o : Option ℕ) → refusal c t ≡ o → Small o → InRange (change_outcome (answer_unless o (reply c t)))
-    by_refusal None e small = reply_in_range c t is_legal e
-    by_refusal (Some n) e small = refused_in_range n small
+    by_refusal : (o : Option ℕ) → refusal c t ≡ o → RefusalInRange o → InRange (change_outcome (answer_unless o (reply c t)))
+    by_refusal None e range = reply_in_range c t is_legal e
+    by_refusal (Some n) e range = range
 
 owner_in_range : (round : ℕ) (t : Tree) → Legal t → InRange (gives (owner_value (owner_or_rest round t)))
 unfolding InRange
 owner_in_range round t is_legal = omega (arith, owner_at_most round t is_legal)
 
 walk_in_range : (place : WalkerPlace) (t : Tree) → Legal t → InRange (walk_value (walk_outcome place t))
-unfolding walk_outcome walk_value
+unfolding InRange walk_outcome walk_value
 walk_in_range place t is_legal = by_end (at_end place)
   where
     by_end : (b : Bool) → InRange (walk_value (if b then refuses 9 else gives (owner_or_rest place.next t)))
-    by_end true = refused_in_range 9 (omega arith, omega arith)
+    by_end true = (omega arith, omega arith)
     by_end false = owner_in_range place.next t is_legal
 
 tree_in_range : (rows : List ℕ) → InRange (tree_outcome rows)
@@ -153,15 +183,18 @@ tree_tells rows r is = tells _ r (tree_in_range rows) is
 -- the rounds of turns are a number of 32 bits
 pub turns_tells : (L a N : ℕ) (t : Tree) (r : ℤ) → N < 2 ^ 32 → r ≡ answer_number (turns_outcome L a N t) → Tells (turns_outcome L a N t) r
 unfolding turns_outcome
-turns_tells L a N t r below is = tells _ r (value_in_range _ _ (line_small L t) (omega (arith, turns_at_most L a N t))) is
+turns_tells L a N t r below is = tells _ r (value_in_range _ _ (line_refusal_in_range L t) (omega (arith, turns_at_most L a N t))) is
 
 pub show_tells : (rows : List ℕ) (L : ℕ) (before after : List ℕ) (r : ℤ) → ShowServed rows L before after r → Tells (zero_value (show_outcome L (tree_of_rows rows))) r
 unfolding show_outcome
-show_tells rows L before after r served = tells _ r (zero_in_range _ _ (line_small L _)) served.answer_is
+show_tells rows L before after r served = tells _ r (zero_in_range _ _ (line_refusal_in_range L _)) served.answer_is
 
 pub trial_tells : (rows : List ℕ) (L p : ℕ) (before after : List ℕ) (r : ℤ) → TrialServed rows L p before after r → Tells (zero_value (trial_outcome L p (tree_of_rows rows))) r
 unfolding trial_outcome refusal
-trial_tells rows L p before after r served = tells _ r (zero_in_range _ _ (refusal_small (open_line L p) _)) served.answer_is
+trial_tells rows L p before after r served = tells _ r (zero_in_range _ _ (small_in_range _ (refusal_small (open_line L p) _))) served.answer_is
+
+pub reason_tells : (p : ℕ) (a : Place) (i : ℕ) (t : Tree) (r : ℤ) → r ≡ answer_number (reason_number (reason_outcome p a i t)) → Tells (reason_number (reason_outcome p a i t)) r
+reason_tells p a i t r is = tells _ r (reason_in_range p a i t) is
 
 pub sheet_tells : (rows : List ℕ) (a N : ℕ) (after : List ℕ) (r : ℤ) → SheetServed rows a N after r → Tells (gives 0) r
 unfolding InRange
@@ -174,12 +207,12 @@ pub list_tells : (before orders lent after written : List ℕ) (r : ℤ) → Lis
     Tells (list_outcome (list_refusal (length orders) (length lent))) r
 unfolding list_outcome
 list_tells before orders lent after written r served =
-    tells _ r (value_in_range _ 0 (list_small (length orders) (length lent)) (omega arith)) served.answer_is
+    tells _ r (value_in_range _ 0 (list_refusal_in_range (length orders) (length lent)) (omega arith)) served.answer_is
 
 pub pack_tells : (k L p : ℕ) (before after : List ℕ) (r : ℤ) → PackServed k L p before after r → Tells (zero_value (packing k L p)) r
 unfolding packing
-pack_tells k L p before after r served = tells _ r (zero_in_range _ _ (packing_small k L p)) served.answer_is
+pack_tells k L p before after r served = tells _ r (zero_in_range _ _ (packing_refusal_in_range k L p)) served.answer_is
 
 pub read_tells : (order before after : List ℕ) (r : ℤ) → ReadServed order before after r → Tells (zero_value (reading (order_of (bytes_in order)))) r
 unfolding reading
-read_tells order before after r served = tells _ r (zero_in_range _ _ (reading_small _)) served.answer_is
+read_tells order before after r served = tells _ r (zero_in_range _ _ (small_in_range _ (reading_small _))) served.answer_is

@@ -1,16 +1,19 @@
--- The values that calls give, with their bounds: a line, or 64 and the rest; a number of turns; the line of an order that was read.
+-- The values that calls give, with their bounds: a line, or 64 and the rest; a number of turns; a line, or 64; the line of an order that was read.
 -- Assumes nothing.
-use Rattle.std.specs.Prelude.{if◌then◌else◌, Option, None, Some}
+use Rattle.std.specs.Prelude.{if◌then◌else◌, Option, None, Some, unwrap_or}
 use Prim.Native.Nat.{ℕ, zero, suc, ◌<◌, ◌≤◌}
 use native.Mathlib.Omega.{arith}
 use mathlib.Core.Path.{◌≡◌, refl, ◌∙◌, ap}
 use mathlib.Core.Bool.{Bool, true, false}
-use Rattle.tree.specs.Tree.{Tree}
+use Rattle.tree.specs.Numbers.{divides}
+use Rattle.tree.specs.Tree.{Tree, nothing, line as leaf, node, Place, at, step}
 use Rattle.tree.specs.Shape.{Legal}
 use Rattle.tree.specs.Asking.{owner, rest, OwnerOrRest, or_rest, owner_or_rest, turns}
-use Rattle.tree.specs.Refusals.{line_refusal}
-use Rattle.tree.specs.Calls.{Call, gives, refuses, gives_unless, turns_outcome}
+use Rattle.tree.specs.Reason.{Reason, step_does_not_divide, line_stands, line_in_class, reason}
+use Rattle.tree.specs.Refusals.{line_refusal, reason_refusal}
+use Rattle.tree.specs.Calls.{Call, gives, refuses, gives_unless, turns_outcome, reason_outcome}
 use Rattle.tree.proofs.Ownership.{turns_at_most}
+use Rattle.tree.proofs.Searching.{smallest_some}
 use Rattle.tree.proofs.Numbering.{owner_below_64}
 use Rattle.tree.proofs.Resting.{rest_at_most}
 use Rattle.plan.specs.declared.walker.WalkerPlace.{WalkerPlace}
@@ -18,7 +21,7 @@ use Rattle.plan.specs.Walker.{at_end, walk_outcome}
 use Rattle.orders.specs.Order.{kind, line, period}
 use Rattle.orders.specs.Reading.{reading_refusal, call_of, line_of, reading}
 use Rattle.orders.proofs.FieldLaws.{field_below}
-use Rattle.gaplinte.specs.Served.{owner_value}
+use Rattle.gaplinte.specs.Served.{owner_value, reason_value}
 
 -- what a call gives is what it would give if it were not refused
 given_value : {A : Type 0} (refusal : Option ℕ) (a b : A) → gives b ≡ gives_unless refusal a → b ≡ a
@@ -49,6 +52,30 @@ walk_given place t o is_legal = by_end (at_end place)
 pub turns_given : (L a N : ℕ) (t : Tree) (n : ℕ) → gives n ≡ turns_outcome L a N t → n ≤ N
 unfolding turns_outcome
 turns_given L a N t n given = rw (given_value (line_refusal L t) (turns L a N t) n given) (turns_at_most L a N t)
+
+-- a line that stands in a class is below 64
+line_below_64 : (p m : ℕ) (here : Tree) (i : ℕ) → unwrap_or (line_in_class p m here i) 0 < 64
+unfolding line_in_class
+line_below_64 p m nothing i = omega arith
+line_below_64 p m (leaf n) i = omega arith
+line_below_64 p m (node w f) i = by_line _ refl
+  where
+    by_line : (o : Option ℕ) → line_in_class p m (node w f) i ≡ o → unwrap_or o 0 < 64
+    by_line None none = omega arith
+    by_line (Some L) found = (smallest_some 64 _ L found).in_range
+
+-- the value of reason is such a line, or 64
+pub reason_at_most : (p : ℕ) (a : Place) (i : ℕ) (t : Tree) → reason_value (reason p a i t) ≤ 64
+unfolding reason reason_value
+reason_at_most p a i t = by_test (divides (step a t) p)
+  where
+    by_test : (b : Bool) → reason_value (if b then line_stands (unwrap_or (line_in_class p (step a t) (at a t) i) 0) else step_does_not_divide) ≤ 64
+    by_test true = omega (arith, line_below_64 p (step a t) (at a t) i)
+    by_test false = omega arith
+
+pub reason_given : (p : ℕ) (a : Place) (i : ℕ) (t : Tree) (r : Reason) → gives r ≡ reason_outcome p a i t → reason_value r ≤ 64
+unfolding reason_outcome
+reason_given p a i t r given = rw (given_value (reason_refusal p a i t) (reason p a i t) r given) (reason_at_most p a i t)
 
 -- the line of an order that is read has 6 bits
 call_line : (k L p : ℕ) → line_of (call_of k L p) ≡ L

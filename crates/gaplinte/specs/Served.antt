@@ -4,6 +4,7 @@ use Rattle.std.specs.Prelude.{ℕ, ◌+◌, ◌≡◌, List, [], ◌∷◌, ◌+
 use Rattle.tree.specs.declared.Sheet.{Sheet}
 use Rattle.tree.specs.Asking.{OwnerOrRest, owned_by, idle_for, owner_or_rest, Shown}
 use Rattle.tree.specs.Sheet.{sheet}
+use Rattle.tree.specs.Reason.{Reason, step_does_not_divide, line_stands}
 use Rattle.tree.specs.Calls.{Call, Answer, booked, done, refused, answer, Outcome, gives, refuses, gives_unless, show_outcome}
 use Rattle.tree.specs.Trial.{Trial, trial_outcome}
 use Rattle.tree.specs.Record.{legal, numbers}
@@ -65,6 +66,18 @@ tried_numbers t = t.start ∷ t.added ∷ (if t.split then 1 else 0) ∷ []
 pub record TrialServed (rows : List ℕ) (L p : ℕ) (before after : List ℕ) (r : ℤ) : Type 0 where
   pub answer_is : r ≡ answer_number (zero_value (trial_outcome L p (tree_of_rows rows)))
   pub tried_is : after ≡ numbers_or tried_numbers before (trial_outcome L p (tree_of_rows rows))
+
+-- A reason
+
+-- (Ask 7, 2) The value is the line or, where the node's step does not divide the period, 64, which is no line.
+unfoldable pub reason_value : Reason → ℕ
+reason_value step_does_not_divide = 64
+reason_value (line_stands L) = L
+
+-- what reason answers, with that value
+unfoldable pub reason_number : Outcome Reason → Outcome ℕ
+reason_number (gives r) = gives (reason_value r)
+reason_number (refuses n) = refuses n
 
 -- A sheet
 

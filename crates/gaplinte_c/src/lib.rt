@@ -6,6 +6,7 @@ pub mod ask;
 pub mod change;
 pub mod list;
 pub mod order;
+pub mod reason;
 pub mod sheet;
 pub mod show;
 pub mod trial;

@@ -6,3 +6,5 @@ pub mod SheetOfCalls
 pub mod TriedInLibrary
 pub mod Demand3OfLists
 pub mod Replaying
+pub mod Explained
+pub mod EachAsked

@@ -5,3 +5,5 @@ pub mod Sheets
 pub mod TriedInLibrary
 pub mod OrdersRun
 pub mod Replay
+pub mod Explained
+pub mod Asked

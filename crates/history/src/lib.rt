@@ -6,6 +6,8 @@ ghost use Rattle.lists.specs.Runs.{answer_in};
 ghost use Rattle.plan.specs.Meets.{Meets};
 ghost use Rattle.history.specs.Replay.{call_of, answer_number, Replays, ReplaysAndOwns, ReplaysAndAddsUp};
 
+pub mod asked;
+
 use plan::ask::OwnerAnswer;
 use tree::changed::Changed;
 use tree::refusal::Refusal;

@@ -16,7 +16,7 @@ use Rattle.tree.specs.Refusals.{period_out_of_range, no_room, open_refusal}
 use Rattle.tree.specs.Calls.{open_line, booked}
 use Rattle.tree.specs.Record.{path_at, no_rows, legal}
 use Rattle.paths.specs.Rules.{row_of, same_node, Spot, best_of_lines, set_line, split_path, booked_path, booked_at}
-use Rattle.tree.proofs.Checks.{range_positive, range_at_most, period_in_range, open_refused_3, open_last_check}
+use Rattle.tree.proofs.Checks.{range_positive, range_at_most, open_refused_3, open_last_check}
 use Rattle.tree.proofs.Opening.{MayOpen}
 use Rattle.paths.proofs.RowLaws.{no_rows_empty}
 use Rattle.paths.proofs.LegalLines.{legal_rest_unused}
@@ -55,9 +55,8 @@ open_again rows L p is_legal number inside there =
     open_refused_3 L p (tree_of_rows rows) number inside (open_on_record rows is_legal L (omega arith) ∙ ap not there)
 
 -- an open that passes the checks 1, 2 and 3
-pub checks_passed : (rows : List ℕ) (L p : ℕ) → legal rows ≡ true → L < 64 → (p ≡ 0 → ⊥) → p ≤ 4095 → no_rows (path_at rows L) ≡ true → Bookable rows L p
-checks_passed rows L p is_legal below some_rounds short absent =
-    record { is_legal = is_legal; number = omega arith; inside = period_in_range p (omega arith) short; absent = absent }
+pub checks_passed : (rows : List ℕ) (L p : ℕ) → legal rows ≡ true → L < 64 → period_out_of_range p ≡ false → no_rows (path_at rows L) ≡ true → Bookable rows L p
+checks_passed rows L p is_legal below inside absent = record { is_legal = is_legal; number = omega arith; inside = inside; absent = absent }
 
 -- it finds what the search finds
 pub checked_if_bookable : (rows : List ℕ) (L p : ℕ) → Bookable rows L p → (o : Result (Option CandidateSpot) Refusal) → Searched rows p o → RoomFound rows L p o

@@ -38,10 +38,7 @@ pub fn check_open(tree: TreeRecord<'_>, line: u64, period: Period) -> Result<Roo
     ensures { OpenChecked tree.entry.rows.now line period.0 result }
 {
     let line = Line::try_from(line)?;
-    if period.0 == 0 {
-        return Err(Refusal::PeriodOutOfRange);
-    }
-    if 4095 < period.0 {
+    if period.is_out_of_range() {
         return Err(Refusal::PeriodOutOfRange);
     }
     if !paths::is_closed(tree.rows, line) {

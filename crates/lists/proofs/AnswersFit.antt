@@ -23,7 +23,7 @@ unfoldable pub Small : Option ℕ → Type 0
 Small None = Unit
 Small (Some n) = (0 < n) × (n < 10)
 
-pub small_if : (b : Bool) (n : ℕ) (o : Option ℕ) → (0 < n) × (n < 10) → Small o → Small (if b then Some n else o)
+small_if : (b : Bool) (n : ℕ) (o : Option ℕ) → (0 < n) × (n < 10) → Small o → Small (if b then Some n else o)
 unfolding Small
 small_if true n o small rest = small
 small_if false n o small rest = rest

@@ -105,7 +105,7 @@ fn run_step(
     plan: Plan,
     step: Step,
 ) -> Option<Plan> {
-    let [first, second, _] = step.numbers;
+    let [first, second, _, _] = step.numbers;
     match step.kind {
         0 => return Some(begin(rt)),
         1 => return Some(write_number(rt, plan, first, second)),

@@ -8,6 +8,9 @@ use Rattle.tree.specs.Search.{smallest, some_below, smaller_by, count_below}
 use Rattle.tree.specs.Tree.{row, product, sum, Place}
 use Rattle.tree.specs.Opening.{divisor}
 use Rattle.tree.specs.Asking.{rows_11}
+use Rattle.tree.specs.Reason.{Reason, step_does_not_divide, line_stands}
+use Rattle.tree.specs.Refusals.{period_out_of_range}
+use Rattle.tree.specs.Calls.{Outcome, gives, refuses}
 use Rattle.tree.specs.Trial.{Trial}
 use Rattle.tree.specs.Record.{path_at, no_rows, numbers}
 
@@ -28,9 +31,13 @@ same_node (suc l) (p ∷ ps) (q ∷ qs) = eqb p.edge q.edge && same_node l ps qs
 
 -- The chosen candidate, found on the paths
 
--- some line through the node at level l of path ps takes an edge of class i there
+-- line M's path goes through the node at level l of path ps, and takes an edge of class i modulo d there
+abbrev pub takes_class : Family → List Row → ℕ → ℕ → ℕ → ℕ → Bool
+takes_class family ps l d i M = same_node l ps (family M) && eqb ((row_of l (family M)).edge % d) i
+
+-- some line does
 unfoldable pub class_taken : Family → List Row → ℕ → ℕ → ℕ → Bool
-class_taken family ps l d i = some_below 64 (λ M. same_node l ps (family M) && eqb ((row_of l (family M)).edge % d) i)
+class_taken family ps l d i = some_below 64 (takes_class family ps l d i)
 
 -- the smallest class that none takes
 unfoldable pub class_on_path : Family → List Row → ℕ → ℕ → Option ℕ
@@ -140,3 +147,36 @@ walk_on_paths family (suc left) M l n =
 unfoldable pub owner_on_paths : Family → ℕ → Option ℕ
 owner_on_paths family n =
     elim (smallest 64 (λ M. not (no_rows (family M)))) [ None ↦ None | Some M ↦ walk_on_paths family 11 M 0 n ]
+
+-- A reason, over the paths
+
+-- line M's path goes through the node at level l and offset r
+unfoldable pub through_node : Family → ℕ → ℕ → ℕ → Bool
+through_node family l r M = ltb l (length (family M)) && eqb (sum (take l (family M))) r
+
+-- the line of smallest number whose path goes through that node
+unfoldable pub line_through : Family → ℕ → ℕ → Option ℕ
+line_through family l r = smallest 64 (through_node family l r)
+
+-- the line of smallest number that takes an edge of class i of the node at level l of path ps
+unfoldable pub line_of_class : Family → List Row → ℕ → ℕ → ℕ → Option ℕ
+line_of_class family ps l d i = smallest 64 (takes_class family ps l d i)
+
+-- the line that was found in a class, or the refusal where none was
+unfoldable pub line_or_12 : Option ℕ → Outcome Reason
+line_or_12 None = refuses 12
+line_or_12 (Some N) = gives (line_stands N)
+
+-- what is answered of class i of the node of step m at level l of line M's path
+unfoldable pub reason_with : Family → ℕ → ℕ → ℕ → ℕ → ℕ → Outcome Reason
+reason_with family p M l m i =
+    let d = divisor p m (row_of l (family M)).weight in
+    if divides m p then (if ltb i d then line_or_12 (line_of_class family (family M) l d i) else refuses 11) else gives step_does_not_divide
+
+unfoldable pub reason_on_path : Family → ℕ → ℕ → ℕ → ℕ → Outcome Reason
+reason_on_path family p M l i = reason_with family p M l (product (take l (family M))) i
+
+-- what is answered of class i of the node at level l and offset r
+unfoldable pub reason_on_paths : Family → ℕ → ℕ → ℕ → ℕ → Outcome Reason
+reason_on_paths family p l r i =
+    if period_out_of_range p then refuses 2 else elim (line_through family l r) [ None ↦ refuses 10 | Some M ↦ reason_on_path family p M l i ]

@@ -1,4 +1,4 @@
--- The ways that open and close can go on a plan record: it is a tree, or it is none and counts as the empty plan.
+-- The ways that a call can go on a plan record: it is a tree, or it is none and counts as the empty plan.
 -- Assumes nothing.
 use Prim.Native.Nat.{ℕ}
 use native.Mathlib.Omega.{arith}
@@ -77,9 +77,13 @@ module _ (rows : List ℕ) (not_legal : legal rows ≡ false) where
   unfolding tree_of_rows
   no_tree = tree_of_illegal (record { rows = rows }) not_legal
 
-  pub same_tree : tree_of_rows empty_plan.rows ≡ tree_of_rows rows
+  same_tree : tree_of_rows empty_plan.rows ≡ tree_of_rows rows
   unfolding tree_of_rows
   same_tree = empty_tree ∙ sym no_tree
+
+  -- a call that asks, put to the empty plan instead
+  pub asked_in_empty : {A : Type 0} (answered : Tree → A) {e : Plan} {a : A} → e ≡ empty_plan → a ≡ answered (tree_of_rows e.rows) → a ≡ answered (tree_of_rows rows)
+  asked_in_empty answered {e} {a} empty told = told ∙ ap (λ (plan : Plan). answered (tree_of_rows plan.rows)) empty ∙ ap answered same_tree
 
   booked_from_empty : (c : Call) (s : ℕ) (after : List ℕ) → CarriedOut c empty_plan.rows after (booked s) → CarriedOut c rows after (booked s)
   unfolding answer answer_unless rows_after rows_unless

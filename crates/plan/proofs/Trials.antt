@@ -1,31 +1,25 @@
--- A trial on a record that is no tree, and an open after its trial.
+-- An open after its trial.
 -- Assumes nothing.
 use Prim.Native.Nat.{ℕ}
-use mathlib.Core.Path.{◌≡◌, ◌∙◌, ap}
-use mathlib.Core.Bool.{false}
+use mathlib.Core.Path.{◌≡◌}
 use mathlib.Core.List.{List}
 use Rattle.std.specs.Prelude.{Result}
 use Rattle.tree.specs.declared.Plan.{Plan}
 use Rattle.tree.specs.declared.Start.{Start}
 use Rattle.tree.specs.declared.refusal.Refusal.{Refusal}
 use Rattle.tree.specs.Answered.{outcome_of}
-use Rattle.tree.specs.Calls.{open_line, Answer, Outcome}
-use Rattle.tree.specs.Trial.{Trial, trial_outcome, BroughtAbout}
-use Rattle.tree.specs.Record.{legal, tree_of}
+use Rattle.tree.specs.Calls.{open_line, Answer}
+use Rattle.tree.specs.Trial.{trial_outcome, BroughtAbout}
+use Rattle.tree.specs.Record.{tree_of}
 use Rattle.tree.proofs.Trials.{open_brings_about}
 use Rattle.bridge.specs.Rows.{plan_of, tree_of_rows, CarriedOut}
 use Rattle.bridge.proofs.TreeOfRecord.{tree_of_legal}
 use Rattle.lines.specs.Answers.{open_answer}
 use Rattle.trials.specs.declared.Trial.{Trial as Told}
 use Rattle.trials.specs.Answers.{trial_told}
-use Rattle.plan.specs.Meets.{empty_plan, Meets}
+use Rattle.plan.specs.Meets.{Meets}
 use Rattle.plan.specs.Tried.{OpenedAsTried}
-use Rattle.plan.proofs.Changes.{carried_meets, plan_after_tree, same_tree}
-
--- a trial that was made in the empty plan instead
-pub trial_in_empty : (rows : List ℕ) (L p : ℕ) (e : Plan) (o : Outcome Trial) → legal rows ≡ false → e ≡ empty_plan → o ≡ trial_outcome L p (tree_of_rows e.rows) → o ≡ trial_outcome L p (tree_of_rows rows)
-trial_in_empty rows L p e o not_legal empty told =
-    told ∙ ap (λ (plan : Plan). trial_outcome L p (tree_of_rows plan.rows)) empty ∙ ap (trial_outcome L p) (same_tree rows not_legal)
+use Rattle.plan.proofs.Changes.{carried_meets, plan_after_tree}
 
 -- an open that meets its promise does what the trial tells of it
 pub open_as_told : (L p : ℕ) (before : Plan) (a : Answer) (after : Plan) → Meets (open_line L p) before a after → BroughtAbout (trial_outcome L p (tree_of before)) a (tree_of before) (tree_of after)

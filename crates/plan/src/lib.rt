@@ -1,9 +1,10 @@
-// The public calls on a plan. None has a `requires`: a record that is no tree counts as the empty plan, and each refusal has document 01's number.
+// The public calls on a plan. None has a `requires`: a record that is no tree counts as the empty plan, and each refusal has its number in document 01 or 02.
 #![tactic(auto)]
 
 pub mod ask;
 pub mod change;
 mod lookup;
+pub mod reason;
 pub mod record;
 pub mod sheet;
 pub mod trial;

@@ -10,15 +10,15 @@ use tree::Plan;
 // More steps than a script has are not read.
 const MOST_STEPS: usize = 1000000;
 
-// A step of a script, which is 25 bytes: a kind, then three numbers, the most significant byte first.
+// A step of a script, which is 33 bytes: a kind, then four numbers, the most significant byte first.
 #[derive(Clone, Copy)]
 pub struct Step {
     pub kind: u8,
-    pub numbers: [u64; 3],
+    pub numbers: [u64; 4],
 }
 
-impl From<[u8; 25]> for Step {
-    fn from(bytes: [u8; 25]) -> Step {
+impl From<[u8; 33]> for Step {
+    fn from(bytes: [u8; 33]) -> Step {
         let (numbers, _) = bytes[1..].as_chunks::<8>();
         Step {
             kind: bytes[0],
@@ -26,6 +26,7 @@ impl From<[u8; 25]> for Step {
                 u64::from_be_bytes(numbers[0]),
                 u64::from_be_bytes(numbers[1]),
                 u64::from_be_bytes(numbers[2]),
+                u64::from_be_bytes(numbers[3]),
             ],
         }
     }
@@ -33,7 +34,7 @@ impl From<[u8; 25]> for Step {
 
 // The next step, or none at the end of the script.
 fn next_step(script: &mut impl Read) -> Option<Step> {
-    let mut bytes = [0; 25];
+    let mut bytes = [0; 33];
     script.read_exact(&mut bytes).ok()?;
     Some(Step::from(bytes))
 }

@@ -1,4 +1,4 @@
--- The checks of open and close (specs/Refusals.antt): what a call that passes them may count on, and what a refusal says.
+-- The checks of each call (specs/Refusals.antt): what a call that passes them may count on, and what a refusal says.
 -- Assumes nothing.
 use Rattle.std.specs.Prelude.{if◌then◌else◌, Option, None, Some}
 use Prim.Native.Nat.{ℕ, ◌<◌, ◌≤◌}
@@ -8,11 +8,11 @@ use mathlib.Core.Bool.{Bool, true, false, not, ◌||◌, true≢false}
 use mathlib.Core.List.{List, [], ◌∷◌, ◌++◌}
 use Rattle.tree.proofs.Options.{some-none}
 use lib.Dec.{eqb, ltb}
-use borrow.Author.Tests.{eqb-false, ltb-false, lt-ltb, le-ltb, eq-eqb, ne_eqb}
+use borrow.Author.Tests.{eqb-false, ltb-false, lt-ltb, le-ltb, ne_eqb}
 use Rattle.tree.specs.Search.{or_else}
-use Rattle.tree.specs.Tree.{Tree, is_open}
+use Rattle.tree.specs.Tree.{Tree, is_open, Place}
 use Rattle.tree.specs.Shape.{Legal}
-use Rattle.tree.specs.Refusals.{Check, refuse, first_refusal, line_above_63, period_out_of_range, no_room, earlier_checks, open_refusal, line_refusal}
+use Rattle.tree.specs.Refusals.{Check, refuse, first_refusal, line_above_63, period_out_of_range, no_room, earlier_checks, open_refusal, line_refusal, reason_refusal}
 use Rattle.tree.proofs.Opening.{MayOpen}
 
 -- a check that comes last decides where none before it refuses
@@ -88,17 +88,9 @@ pub open_last_check : (L p : ℕ) (t : Tree) → L ≤ 63 → period_out_of_rang
 unfolding open_refusal first_refusal earlier_checks line_above_63
 open_last_check L p t number inside absent = rw (le-ltb 63 L number, inside, absent)
 
-pub zero_out_of_range : (p : ℕ) → p ≡ 0 → period_out_of_range p ≡ true
-unfolding period_out_of_range
-zero_out_of_range p h = rw (eq-eqb p 0 h)
-
 pub above_out_of_range : (p : ℕ) → 0 < p → 4095 < p → period_out_of_range p ≡ true
 unfolding period_out_of_range
 above_out_of_range p positive above = rw (ne_eqb p 0 (λ zero. omega arith), lt-ltb 4095 p above)
-
-pub period_in_range : (p : ℕ) → 0 < p → p ≤ 4095 → period_out_of_range p ≡ false
-unfolding period_out_of_range
-period_in_range p positive most = rw (ne_eqb p 0 (λ zero. omega arith), le-ltb 4095 p most)
 
 -- The refusals of close, show and turns
 
@@ -125,3 +117,9 @@ first_of_two false is_there h = rw h
 pub close_refused : (L : ℕ) (t : Tree) → is_open L t ≡ false → line_refusal L t ≡ Some (if line_above_63 L then 1 else 4)
 unfolding line_refusal first_refusal
 close_refused L t h = first_of_two (line_above_63 L) (is_open L t) h
+
+-- The first refusal of reason
+
+pub reason_refused_2 : (p : ℕ) (a : Place) (i : ℕ) (t : Tree) → period_out_of_range p ≡ true → reason_refusal p a i t ≡ Some 2
+unfolding reason_refusal first_refusal
+reason_refused_2 p a i t out = rw out

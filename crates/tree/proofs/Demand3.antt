@@ -31,7 +31,7 @@ use Rattle.tree.proofs.Agreement.{Agree, ledger_open, agree_at_first, point, agr
 
 -- What a call answers
 
-answer_refused : (c : Call) (t : Tree) (n : ℕ) → refusal c t ≡ Some n → answer c t ≡ refused n
+pub answer_refused : (c : Call) (t : Tree) (n : ℕ) → refusal c t ≡ Some n → answer c t ≡ refused n
 unfolding answer answer_unless
 answer_refused c t n h = rw h
 

@@ -43,3 +43,6 @@ pub mod Sheets
 pub mod Checks
 pub mod Agreement
 pub mod Demand3
+-- Reasons
+pub mod Reasons
+pub mod ReasonBounds

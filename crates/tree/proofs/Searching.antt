@@ -5,7 +5,7 @@ use Prim.Native.Nat.{ℕ, zero, suc, ◌+◌, ◌<◌}
 use native.Mathlib.Omega.{arith}
 use native.Mathlib.Nat.{eq-or-lt_of_le, le_of_suc-le-suc}
 use native.Mathlib.Numerals.{add-one}
-use mathlib.Core.Path.{◌≡◌, refl, sym, ◌∙◌, ap}
+use mathlib.Core.Path.{◌≡◌, refl, sym, ◌∙◌, ap, ap₂}
 use mathlib.Core.Logic.{◌⊎◌, inl, inr}
 use mathlib.Core.Bool.{Bool, true, false, not, true≢false, false≢true}
 use mathlib.Core.List.{[], ◌∷◌}
@@ -110,6 +110,13 @@ smallest_some n test i h =
 pub smallest_none : (n : ℕ) (test : ℕ → Bool) → smallest n test ≡ None → (i : ℕ) → i < n → test i ≡ false
 unfolding smallest
 smallest_none n test h i below = if_none (test i) i (first_none n _ h i below)
+
+-- tests that agree on every number below n have the same smallest one
+pub smallest_same : (n : ℕ) (f g : ℕ → Bool) → ((i : ℕ) → i < n → f i ≡ g i) → smallest n f ≡ smallest n g
+unfolding smallest first
+smallest_same zero f g agree = refl
+smallest_same (suc n) f g agree =
+    ap₂ or_else (smallest_same n f g λ i below. agree i (omega arith)) (ap (λ (b : Bool). if b then Some n else None) (agree n (omega arith)))
 
 pub some_below_true : (n : ℕ) (test : ℕ → Bool) → some_below n test ≡ true → (i : ℕ) × (i < n) × (test i ≡ true)
 unfolding some_below

@@ -1,4 +1,4 @@
--- What the code's answers say in document 01's terms: the number of each refusal, and the outcome of a call.
+-- What the code's answers say in the papers' terms: the number of each refusal, and the outcome of a call.
 -- Assumes nothing.
 use Rattle.std.specs.Prelude.{ℕ, ◌≡◌, true, false, Result, Ok, Err, MatchResult}
 use Rattle.tree.specs.declared.line.Line.{Line}
@@ -7,7 +7,7 @@ use Rattle.tree.specs.declared.refusal.Refusal.TheVariants as refusal
 use Rattle.tree.specs.Refusals.{line_above_63}
 use Rattle.tree.specs.Calls.{Outcome, gives, refuses}
 
--- (Refusals, 1 to 9)
+-- (Refusals, 1 to 9; Ask 7, 4, 5)
 unfoldable pub number_of : Refusal → ℕ
 number_of refusal.LineAbove63 = 1
 number_of refusal.PeriodOutOfRange = 2
@@ -18,6 +18,9 @@ number_of refusal.NoOrder = 6
 number_of refusal.ListLength = 7
 number_of refusal.AnswersTooShort = 8
 number_of refusal.WalkerAtEnd = 9
+number_of refusal.NoNode = 10
+number_of refusal.NoClass = 11
+number_of refusal.NoLineInClass = 12
 
 -- what a call gave, in the terms of what it was asked for, or the number with which it was refused
 unfoldable pub outcome_of : {A B : Type 0} → (A → B) → Result A Refusal → Outcome B

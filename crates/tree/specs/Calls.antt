@@ -1,11 +1,12 @@
 -- The calls: what each answers, and the tree that an open or a close leaves.
 -- Assumes nothing.
 use Rattle.std.specs.Prelude.{ℕ, Option, None, Some}
-use Rattle.tree.specs.Tree.{Tree}
+use Rattle.tree.specs.Tree.{Tree, Place}
 use Rattle.tree.specs.Opening.{opened, start_given}
 use Rattle.tree.specs.Closing.{closed}
 use Rattle.tree.specs.Asking.{Shown, shown, turns}
-use Rattle.tree.specs.Refusals.{open_refusal, line_refusal}
+use Rattle.tree.specs.Reason.{Reason, reason}
+use Rattle.tree.specs.Refusals.{open_refusal, line_refusal, reason_refusal}
 
 -- Open and close
 
@@ -51,7 +52,7 @@ answer c t = answer_unless (refusal c t) (reply c t)
 unfoldable pub after : Call → Tree → Tree
 after c t = tree_unless (refusal c t) t (carried_out c t)
 
--- Show and turns
+-- Show, turns and reason
 
 -- what a call that only asks gives: what it was asked for, or the number with which it is refused
 pub data Outcome (A : Type 0) : Type 0 where
@@ -69,3 +70,7 @@ show_outcome L t = gives_unless (line_refusal L t) (shown L t)
 -- (Ask 1, 2)
 unfoldable pub turns_outcome : ℕ → ℕ → ℕ → Tree → Outcome ℕ
 turns_outcome L a N t = gives_unless (line_refusal L t) (turns L a N t)
+
+-- (Ask 7, 2, 4)
+unfoldable pub reason_outcome : ℕ → Place → ℕ → Tree → Outcome Reason
+reason_outcome p a i t = gives_unless (reason_refusal p a i t) (reason p a i t)

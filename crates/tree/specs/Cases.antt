@@ -1,4 +1,4 @@
--- The joint table: document 01's marked cases A to I, case C as document 02's Ask 6 has it, without the printing, as calls with the answers that it marks; then ten cases of our own.
+-- The joint table: document 01's marked cases A to I, case C as document 02's Ask 6 has it, without the printing, as calls with the answers that it marks; then eleven cases of our own.
 -- Each case begins at the empty plan. The one proof over the whole table is in proofs/JointTable.antt.
 -- Assumes nothing.
 use Rattle.std.specs.Prelude.{ℕ, Bool, true, false, List, [], ◌∷◌, ◌++◌, length, take, replicate}
@@ -7,7 +7,8 @@ use Rattle.tree.specs.declared.Sheet.{Sheet}
 use Rattle.tree.specs.Tree.{Tree, row, path_of, nodes}
 use Rattle.tree.specs.Asking.{OwnerOrRest, owned_by, idle_for, owner_or_rest, rows_11, Shown}
 use Rattle.tree.specs.Sheet.{sheet}
-use Rattle.tree.specs.Calls.{open_line, close_line, Answer, booked, done, refused, answer, after, Outcome, gives, refuses, show_outcome, turns_outcome}
+use Rattle.tree.specs.Reason.{Reason, step_does_not_divide, line_stands}
+use Rattle.tree.specs.Calls.{open_line, close_line, Answer, booked, done, refused, answer, after, Outcome, gives, refuses, show_outcome, turns_outcome, reason_outcome}
 use Rattle.tree.specs.Trial.{Trial, trial_outcome}
 
 -- a call or a question with its answer
@@ -21,6 +22,7 @@ pub data Step : Type 0 where
   nodes_in_all : ℕ → Step
   tries : ℕ → ℕ → Outcome Trial → Step
   sheet_of : ℕ → ℕ → Sheet → Step
+  reason_at : ℕ → ℕ → ℕ → ℕ → Outcome Reason → Step
 
 -- the same call or question, with the answer that the definitions give in tree t
 unfoldable pub answered : Tree → Step → Step
@@ -33,6 +35,7 @@ answered t (nodes_above L a) = nodes_above L (length (path_of L t))
 answered t (nodes_in_all a) = nodes_in_all (nodes t)
 answered t (tries L p a) = tries L p (trial_outcome L p t)
 answered t (sheet_of first N a) = sheet_of first N (sheet first N t)
+answered t (reason_at p l r i a) = reason_at p l r i (reason_outcome p (record { level = l; offset = r }) i t)
 
 -- the tree that it leaves
 unfoldable pub next : Tree → Step → Tree
@@ -45,6 +48,7 @@ next t (nodes_above L a) = t
 next t (nodes_in_all a) = t
 next t (tries L p a) = t
 next t (sheet_of first N a) = t
+next t (reason_at p l r i a) = t
 
 -- a whole case answered by the definitions, from tree t
 unfoldable pub replayed : Tree → List Step → List Step
@@ -286,6 +290,42 @@ sheets =
     ∷ sheet_of 18446744073709551615 9 (lists (9 ∷ []) 0)
     ∷ []))
 
+-- ours: reasons. In the empty plan there is no node. Then a root of weight 6 with the edges 0 and 3, which are of one class modulo 3 and of two modulo 2: of two lines
+-- the lower is named, and with a reason for each class an open gives 5. Then case A's plan: lines that stand deeper, a step that does not divide, where the class
+-- is not looked at, a place where a line stands, offsets and levels of no node, and of two refusals the earlier one.
+unfoldable pub reasons : List Step
+reasons =
+    reason_at 3 0 0 0 (refuses 10)
+    ∷ opens 9 6 (booked 0)
+    ∷ opens 2 6 (booked 1)
+    ∷ opens 3 6 (booked 2)
+    ∷ opens 8 6 (booked 3)
+    ∷ closes 2 done
+    ∷ closes 3 done
+    ∷ reason_at 3 0 0 0 (gives (line_stands 8))
+    ∷ reason_at 3 0 0 1 (refuses 12)
+    ∷ reason_at 3 0 0 3 (refuses 11)
+    ∷ reason_at 2 0 0 0 (gives (line_stands 9))
+    ∷ reason_at 2 0 0 1 (gives (line_stands 8))
+    ∷ opens 5 2 (refused 5)
+    ∷ closes 8 done
+    ∷ closes 9 done
+    ∷ (bookings_A
+    ++ (reason_at 2 0 0 0 (gives (line_stands 1))
+    ∷ reason_at 2 0 0 1 (gives (line_stands 2))
+    ∷ reason_at 2 1 0 0 (gives (line_stands 1))
+    ∷ reason_at 4 1 0 1 (gives (line_stands 3))
+    ∷ reason_at 6 1 1 1 (gives (line_stands 4))
+    ∷ reason_at 6 1 1 2 (refuses 12)
+    ∷ reason_at 2 2 3 0 (gives step_does_not_divide)
+    ∷ reason_at 3 1 1 7 (gives step_does_not_divide)
+    ∷ reason_at 2 2 0 0 (refuses 10)
+    ∷ reason_at 2 1 2 0 (refuses 10)
+    ∷ reason_at 2 3 0 0 (refuses 10)
+    ∷ reason_at 0 3 0 0 (refuses 2)
+    ∷ reason_at 4096 0 0 0 (refuses 2)
+    ∷ []))
+
 unfoldable pub cases : List (List Step)
 cases =
     case_A
@@ -307,4 +347,5 @@ cases =
     ∷ two_edges_in_a_class
     ∷ rests
     ∷ sheets
+    ∷ reasons
     ∷ []

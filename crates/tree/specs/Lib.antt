@@ -1,4 +1,4 @@
--- What a reader must believe: document 01 as definitions, in its own order, and the chosen candidate, turns, rests, trials and sheets as document 02 has them. A mark such as (The tree, 6) names the sentence
+-- What a reader must believe: document 01 as definitions, in its own order, and the chosen candidate, turns, rests, trials, sheets and reasons as document 02 has them. A mark such as (The tree, 6) names the sentence
 -- that a definition renders, counted within that section of document 01, (Ask 1, 2) one of document 02; docs/RULES.md has the rules under these numbers,
 -- docs/TRACE.md what renders and shows each.
 pub mod Numbers
@@ -10,9 +10,11 @@ pub mod Opening
 pub mod Closing
 pub mod Asking
 pub mod Sheet
+pub mod Reason
 pub mod Refusals
 pub mod Calls
 pub mod Trial
+pub mod Explained
 pub mod Answered
 pub mod Lists
 pub mod Demand3

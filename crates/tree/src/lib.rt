@@ -1,7 +1,8 @@
-// The types of document 01's plan, and one function over them. The definitions that give them their meaning are in specs/.
+// The types of document 01's plan, and two functions over them. The definitions that give them their meaning are in specs/.
 #![tactic(auto)]
 
 ghost use Rattle.std.specs.Prelude.{◌≡◌, ltb, if◌then◌else◌};
+ghost use Rattle.tree.specs.Refusals.{period_out_of_range};
 
 pub mod changed;
 pub mod line;
@@ -18,6 +19,15 @@ pub struct Row {
 // A period in rounds. A type of its own, so that it is never taken for a start.
 #[derive(Clone, Copy, Debug, PartialEq, Eq)]
 pub struct Period(pub u16);
+
+impl Period {
+    // Refusal 2 of open, trial and reason.
+    pub fn is_out_of_range(self) -> bool
+        ensures { result ≡ period_out_of_range self.0 }
+    {
+        self.0 == 0 || 4095 < self.0
+    }
+}
 
 // A start in rounds.
 #[derive(Clone, Copy, Debug, PartialEq, Eq)]

@@ -5,7 +5,7 @@ ghost use Rattle.tree.specs.Answered.{number_of};
 use std::error::Error;
 use std::fmt;
 
-// Document 01's refusals, each with the number that it has there.
+// The refusals of documents 01 and 02, each with the number that it has there.
 #[derive(Clone, Copy, Debug, PartialEq, Eq, Hash)]
 pub enum Refusal {
     LineAbove63 = 1,
@@ -17,6 +17,9 @@ pub enum Refusal {
     ListLength = 7,
     AnswersTooShort = 8,
     WalkerAtEnd = 9,
+    NoNode = 10,
+    NoClass = 11,
+    NoLineInClass = 12,
 }
 
 impl From<Refusal> for u8 {
@@ -39,6 +42,9 @@ impl fmt::Display for Refusal {
             Refusal::ListLength => "the list's length is no multiple of 3, or above 65,535",
             Refusal::AnswersTooShort => "there are fewer than two answer bytes for each order",
             Refusal::WalkerAtEnd => "the walker can not go on: one of its numbers is 2^64 - 1",
+            Refusal::NoNode => "no node has this level and offset",
+            Refusal::NoClass => "the node has no such class for the period",
+            Refusal::NoLineInClass => "no line stands in the class",
         })
     }
 }

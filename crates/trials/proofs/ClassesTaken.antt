@@ -4,14 +4,14 @@ use Prim.Native.Nat.{ℕ, ◌+◌, ◌%◌, ◌<◌, ◌≤◌}
 use native.Mathlib.Omega.{arith}
 use native.Mathlib.Nat.{mod-lt}
 use mathlib.Core.Path.{◌≡◌, refl, sym, ◌∙◌, ap, fun_ext}
-use mathlib.Core.Bool.{Bool, true, false, ◌&&◌, ◌||◌, or-true, or-false}
+use mathlib.Core.Bool.{Bool, true, false, ◌||◌, or-true, or-false}
 use mathlib.Core.List.{List}
 use lib.Dec.{eqb}
 use lib.ListN.{length, replicate}
 use borrow.Author.Tests.{eqb-true}
 use Rattle.tree.specs.Search.{some_below, count_below}
 use Rattle.tree.specs.Record.{row_at, path_at}
-use Rattle.paths.specs.Rules.{row_of, same_node, class_taken, classes_taken}
+use Rattle.paths.specs.Rules.{same_node, takes_class, class_taken, classes_taken}
 use Rattle.tree.proofs.Searching.{some_below_none}
 use Rattle.tree.proofs.Totals.{count_at_most, count_none, count_one_more}
 use Rattle.paths.proofs.NoneBelow.{some_below_more}
@@ -19,15 +19,11 @@ use Rattle.paths.proofs.SameNode.{edge_read}
 use Rattle.candidates.specs.Edges.{marked, with_mark}
 use Rattle.candidates.proofs.Marks.{none_marked, with_mark_length, marked_more}
 
--- line M takes an edge of class i at the node at level l of line L's path
-abbrev takes_class : List ℕ → ℕ → ℕ → ℕ → ℕ → ℕ → Bool
-takes_class rows L l d i M = same_node l (path_at rows L) (path_at rows M) && eqb ((row_of l (path_at rows M)).edge % d) i
-
 -- marked are the classes that the lines below M take, and `count` is how many are marked
 pub record Counting (rows : List ℕ) (L l d : ℕ) (met : List ℕ) (count M : ℕ) : Type 0 where
   pub within : M ≤ 64
   pub words : length met ≡ 64
-  pub each : (i : ℕ) → marked met i ≡ some_below M (takes_class rows L l d i)
+  pub each : (i : ℕ) → marked met i ≡ some_below M (takes_class (path_at rows) (path_at rows L) l d i)
   pub count_is : count ≡ count_below d (marked met)
 
 module _ (rows : List ℕ) (L l d : ℕ) where
@@ -35,7 +31,7 @@ module _ (rows : List ℕ) (L l d : ℕ) where
   counting_start = record {
     within = omega arith;
     words = refl;
-    each = λ i. none_marked i ∙ sym (some_below_none 0 (takes_class rows L l d i) (λ M below. absurd (omega arith)));
+    each = λ i. none_marked i ∙ sym (some_below_none 0 (takes_class (path_at rows) (path_at rows L) l d i) (λ M below. absurd (omega arith)));
     count_is = sym (count_none d (marked (replicate 64 0)) none_marked);
   }
 
@@ -48,14 +44,14 @@ module _ (rows : List ℕ) (L l d : ℕ) where
     unfolding classes_taken class_taken
     counting_all past =
         let all : M ≡ 64 = omega (arith, counting.within) in
-        counting.count_is ∙ ap (count_below d) (fun_ext λ i. counting.each i ∙ ap (λ (n : ℕ). some_below n (takes_class rows L l d i)) all)
+        counting.count_is ∙ ap (count_below d) (fun_ext λ i. counting.each i ∙ ap (λ (n : ℕ). some_below n (takes_class (path_at rows) (path_at rows L) l d i)) all)
 
     module _ (below : M < 64) {b : Bool} (answered : b ≡ same_node l (path_at rows L) (path_at rows M)) where
       pub counting_apart : b ≡ false → Counting rows L l d met count (M + 1)
       counting_apart apart = record {
         within = omega arith;
         words = counting.words;
-        each = λ i. counting.each i ∙ sym (or-false _) ∙ rw (some_below_more M (takes_class rows L l d i), ← answered, apart);
+        each = λ i. counting.each i ∙ sym (or-false _) ∙ rw (some_below_more M (takes_class (path_at rows) (path_at rows L) l d i), ← answered, apart);
         count_is = counting.count_is;
       }
 
@@ -68,8 +64,8 @@ module _ (rows : List ℕ) (L l d : ℕ) where
         class_below = mod-lt e positive
 
         -- the lines below M + 1 take the classes that those below M take, and that of e
-        one_more_line : (i : ℕ) → some_below (M + 1) (takes_class rows L l d i) ≡ (marked met i || eqb (e % d) i)
-        one_more_line i = rw (some_below_more M (takes_class rows L l d i), counting.each i, edge_read rows (path_at rows L) l M read (λ k. eqb (k % d) i), meets)
+        one_more_line : (i : ℕ) → some_below (M + 1) (takes_class (path_at rows) (path_at rows L) l d i) ≡ (marked met i || eqb (e % d) i)
+        one_more_line i = rw (some_below_more M (takes_class (path_at rows) (path_at rows L) l d i), counting.each i, edge_read rows (path_at rows L) l M read (λ k. eqb (k % d) i), meets)
 
         module _ {c : Bool} (looked : c ≡ marked met (e % d)) where
           pub counting_met : c ≡ true → Counting rows L l d met count (M + 1)

@@ -21,6 +21,9 @@ number_fits refusal.NoOrder = omega arith
 number_fits refusal.ListLength = omega arith
 number_fits refusal.AnswersTooShort = omega arith
 number_fits refusal.WalkerAtEnd = omega arith
+number_fits refusal.NoNode = omega arith
+number_fits refusal.NoClass = omega arith
+number_fits refusal.NoLineInClass = omega arith
 
 pub returns-in-Ok-Some : goal.returns-in-Ok-Some
 unfolding answer_word joined result_field start answer_in

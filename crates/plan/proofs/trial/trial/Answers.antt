@@ -4,9 +4,9 @@ use mathlib.Core.Path.{sym, ◌∙◌, ap}
 use lib.ListN.{length}
 use Rattle.tree.specs.declared.Plan.{Plan}
 use Rattle.tree.specs.Record.{legal}
+use Rattle.tree.specs.Trial.{trial_outcome}
 use Rattle.paths.specs.Checked.{CheckedRecord}
-use Rattle.plan.proofs.Changes.{empty_legal, empty_has_all}
-use Rattle.plan.proofs.Trials.{trial_in_empty}
+use Rattle.plan.proofs.Changes.{empty_legal, empty_has_all, asked_in_empty}
 use Rattle.plan.proofs.trial.trial.Goals as goal
 
 pub returns-in-Some : goal.returns-in-Some
@@ -22,4 +22,4 @@ invariant_of-trial_line g c =
 
 pub returns : goal.returns
 unfolding CheckedRecord
-returns g c = rw (sym c.rows.ensures) (trial_in_empty _ _ _ _ _ c.in_default.ensures c.empty-fresh.ensures c.trial_line-2.ensures)
+returns g c = rw (sym c.rows.ensures) (asked_in_empty _ c.in_default.ensures (trial_outcome _ _) c.empty-fresh.ensures c.trial_line-2.ensures)

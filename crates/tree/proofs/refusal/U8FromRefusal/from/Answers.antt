@@ -20,6 +20,9 @@ numbered refusal.NoOrder = refl
 numbered refusal.ListLength = refl
 numbered refusal.AnswersTooShort = refl
 numbered refusal.WalkerAtEnd = refl
+numbered refusal.NoNode = refl
+numbered refusal.NoClass = refl
+numbered refusal.NoLineInClass = refl
 
 pub returns : goal.returns
 returns c = numbered c.args.refusal

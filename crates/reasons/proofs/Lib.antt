@@ -1,0 +1,3 @@
+pub mod NodeFinding
+pub mod ClassLines
+pub mod Answering
