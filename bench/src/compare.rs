@@ -70,6 +70,32 @@ fn open_lines(rows: &Record) -> usize {
     (0..64).filter(|line| rows[22 * line] != 0).count()
 }
 
+/// Plans that lists leave, every `empty_every`th of them empty. Hands over each plan, and the record to be asked: for every
+/// fourth plan that is a damaged copy.
+fn each_plan(
+    plans: usize,
+    empty_every: usize,
+    mut ask: impl FnMut(&Record, &Record, &mut Numbers),
+) -> Seen {
+    let mut numbers = Numbers(SEED);
+    let mut rows = [0; RECORD];
+    let mut seen = Seen::default();
+    for turn in 0..plans {
+        if turn % empty_every == 0 {
+            rows = [0; RECORD];
+        } else {
+            plain::run_list(&mut rows, &numbers.list(), &mut [0; 2 * 39]);
+        }
+        let record = match turn % 4 {
+            3 => seen.damaged(&rows, &mut numbers),
+            _ => rows,
+        };
+        ask(&rows, &record, &mut numbers);
+        seen.most_lines = seen.most_lines.max(open_lines(&rows));
+    }
+    seen
+}
+
 /// One generated open or close by both: the same answer, which is returned, and the same record afterwards.
 fn compare_change(rows: &mut Record, numbers: &mut Numbers) -> i64 {
     let line = match numbers.below(64) {

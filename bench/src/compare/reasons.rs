@@ -1,11 +1,10 @@
 //! Reasons by both: the same answer to every question.
 
-use super::{open_lines, Seen};
+use super::each_plan;
 use crate::inputs::{deep_plan_of, plan_of};
 use crate::measure::{DEEP_LINES, LINES, TOGETHER};
-use crate::numbers::Numbers;
 use crate::questions::{outcome, question, questions, Outcome, Question, OUTCOMES};
-use crate::{plain, Record, LIBRARY, PLAIN, RECORD, SEED};
+use crate::{Record, LIBRARY, PLAIN};
 
 const PLANS: usize = 2_000;
 
@@ -26,25 +25,12 @@ fn count_of(outcomes: &[Outcome], wanted: Outcome) -> usize {
 /// Questions of plans that lists leave, empty ones among them. Every fourth plan has its questions asked of a damaged
 /// copy.
 pub fn compare_reasons() {
-    let mut numbers = Numbers(SEED);
-    let mut rows = [0; RECORD];
-    let mut seen = Seen::default();
     let mut outcomes = Vec::new();
-    for turn in 0..PLANS {
-        if turn % 10 == 0 {
-            rows = [0; RECORD];
-        } else {
-            plain::run_list(&mut rows, &numbers.list(), &mut [0; 2 * 39]);
-        }
-        let record = match turn % 4 {
-            3 => seen.damaged(&rows, &mut numbers),
-            _ => rows,
-        };
+    let seen = each_plan(PLANS, 10, |rows, record, numbers| {
         for _ in 0..QUESTIONS {
-            outcomes.push(compare_reason(&record, question(&rows, &mut numbers)));
+            outcomes.push(compare_reason(record, question(rows, numbers)));
         }
-        seen.most_lines = seen.most_lines.max(open_lines(&rows));
-    }
+    });
     println!("{QUESTIONS} reasons of each of {PLANS} plans: equal answers");
     let counts = OUTCOMES.map(|wanted| count_of(&outcomes, wanted));
     let out_of_range = count_of(&outcomes, Outcome::Refused(2));

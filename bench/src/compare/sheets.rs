@@ -1,10 +1,9 @@
 //! Sheets by both: the same 65 numbers.
 
-use super::{open_lines, Seen};
+use super::each_plan;
 use crate::inputs::{plan_of, plan_of_powers};
 use crate::measure::LINES;
-use crate::numbers::Numbers;
-use crate::{plain, Record, Sheet, LIBRARY, PLAIN, RECORD, SEED, SHEET};
+use crate::{Record, Sheet, LIBRARY, PLAIN, SHEET};
 
 const SHEETS: usize = 2_000;
 
@@ -64,26 +63,13 @@ fn compare_sheet(rows: &Record, first: u64, rounds: u16) -> Sheet {
 
 /// Sheets of plans that lists leave, empty ones among them. Every fourth is of a damaged copy.
 pub fn compare_sheets() {
-    let mut numbers = Numbers(SEED);
-    let mut rows = [0; RECORD];
-    let mut seen = Seen::default();
     let mut sheets = SeenSheets::default();
-    for turn in 0..SHEETS {
-        if turn % 50 == 0 {
-            rows = [0; RECORD];
-        } else {
-            plain::run_list(&mut rows, &numbers.list(), &mut [0; 2 * 39]);
-        }
-        let record = match turn % 4 {
-            3 => seen.damaged(&rows, &mut numbers),
-            _ => rows,
-        };
+    let seen = each_plan(SHEETS, 50, |_, record, numbers| {
         let rounds = numbers.rounds();
         let first = numbers.first(rounds);
-        let sheet = compare_sheet(&record, first, rounds);
+        let sheet = compare_sheet(record, first, rounds);
         sheets.sheet(first, rounds, &sheet);
-        seen.most_lines = seen.most_lines.max(open_lines(&rows));
-    }
+    });
     println!("{SHEETS} sheets: equal numbers, which add up");
     sheets.print();
     seen.print_records();
