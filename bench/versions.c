@@ -1,7 +1,8 @@
 /* Two versions of the library, loaded side by side: the time of an owner call and, for comparison, of the check of the
    record alone; then of an open with its close. The versions take turns, and the best of the repetitions counts. For an
    idle round a version from before Ask 4 answers 64, and a later one 64 + the rest. A version from before Ask 6 opens at
-   another start, so that each opens and closes in a plan that it has made. */
+   another start, and one from before Ask 8 joins nothing when it closes, so that each opens and closes in a plan that it
+   has made. */
 #define _POSIX_C_SOURCE 200809L
 #include <dlfcn.h>
 #include <stdint.h>

@@ -201,7 +201,8 @@ static inline uint32_t gaplinte_sheet_total(const gaplinte_figures *sheet) {
 }
 
 /* Opens a line with a period of 1 to 4,095 rounds. The value is its start: the smallest that a candidate offers, and 0
- * in an empty plan. Refused with 1, 2, 3 or 5. */
+ * in an empty plan. Where it splits a node, other lines have longer paths, and keep their periods and starts. Refused
+ * with 1, 2, 3 or 5. */
 GAPLINTE_NODISCARD int64_t gaplinte_open(gaplinte_plan *plan, uint64_t line, uint64_t period);
 
 /* Tries a line with a period: what the open would do is written, and the plan is only read. The value is 0.
@@ -218,7 +219,8 @@ GAPLINTE_NODISCARD int64_t gaplinte_trial(const gaplinte_plan *plan, uint64_t li
 GAPLINTE_NODISCARD int64_t gaplinte_reason(const gaplinte_plan *plan, uint64_t period, uint64_t level, uint64_t offset,
                                            uint64_t edge_class);
 
-/* Closes a line. The value is 0. Refused with 1 or 4. */
+/* Closes a line. The nodes left above it are joined where they can be: other lines can then have shorter paths, and
+ * keep their periods and starts. The value is 0. Refused with 1 or 4. */
 GAPLINTE_NODISCARD int64_t gaplinte_close(gaplinte_plan *plan, uint64_t line);
 
 /* The owner of a round. The value is a line or, where the round is idle, GAPLINTE_IDLE_FROM plus the rest: how many

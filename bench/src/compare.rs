@@ -6,7 +6,7 @@ mod sheets;
 use crate::inputs::{
     list_of, plan_of, plan_of_powers, rounds_under_11_nodes, rounds_where, ORDERS,
 };
-use crate::measure::{LINES, TOGETHER};
+use crate::measure::{LINES, SPLIT_LINES, SPLIT_PERIOD, TOGETHER};
 use crate::numbers::Numbers;
 use crate::{plain, programs, Calls, Record, LIBRARY, PLAIN, RECORD, SEED};
 use std::path::Path;
@@ -22,6 +22,7 @@ const LONGEST_REST: i64 = 4_094;
 #[derive(Default)]
 struct Seen {
     answers: [usize; 9],
+    joined: usize,
     owned: usize,
     longest_rest: i64,
     damaged: usize,
@@ -96,8 +97,14 @@ fn each_plan(
     seen
 }
 
-/// One generated open or close by both: the same answer, which is returned, and the same record afterwards.
-fn compare_change(rows: &mut Record, numbers: &mut Numbers) -> i64 {
+/// The rows of some other line than this one differ.
+fn others_differ(one: &Record, two: &Record, line: u64) -> bool {
+    let mut lines = (0..).zip(one.chunks(22).zip(two.chunks(22)));
+    lines.any(|(other, (one, two))| other != line && one != two)
+}
+
+/// One generated open or close by both: the same answer, which is noted, and the same record afterwards.
+fn compare_change(rows: &mut Record, numbers: &mut Numbers, seen: &mut Seen) {
     let line = match numbers.below(64) {
         0 => numbers.next(),
         _ => numbers.below(66),
@@ -115,7 +122,8 @@ fn compare_change(rows: &mut Record, numbers: &mut Numbers) -> i64 {
     assert!(*rows == other, "the records differ");
     let kept = 0 <= answer || *rows == before;
     assert!(kept, "a refusal changed the record");
-    answer
+    seen.answer(answer);
+    seen.joined += usize::from(!opens && others_differ(&before, rows, line));
 }
 
 /// The owner of a round by both: the same answer, which is returned, a line or 64 plus the rest.
@@ -143,13 +151,13 @@ fn compare_calls() {
             &mut rows
         };
         seen.owner(compare_owner(record, numbers.round()));
-        seen.answer(compare_change(record, &mut numbers));
+        compare_change(record, &mut numbers, &mut seen);
         seen.most_lines = seen.most_lines.max(open_lines(&rows));
     }
     seen.print(&format!("{CALLS} opens and closes, with as many owners"));
     println!(
-        "  {} of the rounds are owned; the longest rest of the others is {}",
-        seen.owned, seen.longest_rest
+        "  {} closes joined nodes; {} of the rounds are owned; the longest rest of the others is {}",
+        seen.joined, seen.owned, seen.longest_rest
     );
 }
 
@@ -240,11 +248,30 @@ fn compare_measured_rounds() {
     }
 }
 
+/// An open that is to split the root does so, and the close after it joins the root again.
+fn assert_splits_and_joins(calls: Calls, before: &Record, line: u64) {
+    let mut rows = *before;
+    (calls.open)(&mut rows, line, SPLIT_PERIOD);
+    assert!(others_differ(before, &rows, line), "the root is not split");
+    (calls.close)(&mut rows, line);
+    assert!(rows == *before, "the root is not joined");
+}
+
+/// The opens that split, and the closes that join, of both.
+fn compare_measured_splits() {
+    for lines in SPLIT_LINES {
+        let line = lines as u64 - 1;
+        assert_splits_and_joins(LIBRARY, &plan_of(line), line);
+        assert_splits_and_joins(PLAIN, &plan_of(line), line);
+    }
+}
+
 /// Everything that the two are compared on.
 pub fn compare_answers(folder: &Path) {
     compare_calls();
     compare_under_11_nodes();
     compare_measured_rounds();
+    compare_measured_splits();
     sheets::compare_sheets();
     sheets::compare_measured_sheets();
     reasons::compare_reasons();

@@ -17,6 +17,12 @@ pub const LINES: [usize; 3] = [1, 16, 64];
 /// The same, of a deep plan, which has two and more.
 pub const DEEP_LINES: [usize; 2] = [16, 64];
 
+/// The numbers of lines that are measured where an open splits the root: with more than 60 lines none does.
+pub const SPLIT_LINES: [usize; 3] = [2, 16, 60];
+
+/// A period whose open splits the root there.
+pub const SPLIT_PERIOD: u64 = 60;
+
 /// How many calls are timed together, where one is short.
 pub const TOGETHER: usize = 100;
 
@@ -87,27 +93,32 @@ fn reasons_deep(calls: Calls, lines: usize) -> Task {
     reasons_of(calls, deep_plan_of(lines as u64))
 }
 
-fn open_and_close(calls: Calls, rows: &mut Record, line: u64) {
-    let start = (calls.open)(black_box(rows), line, black_box(480));
+fn open_and_close(calls: Calls, rows: &mut Record, line: u64, period: u64) {
+    let start = (calls.open)(black_box(rows), line, black_box(period));
     assert!(0 <= start, "the line is booked");
     black_box((calls.close)(black_box(rows), line));
 }
 
 /// Opens of a line, each with a close of it, in the plan that is made with so many lines.
-fn changes_in(calls: Calls, plan: fn(u64) -> Record, lines: usize) -> Task {
+fn changes_in(calls: Calls, plan: fn(u64) -> Record, lines: usize, period: u64) -> Task {
     let line = lines as u64 - 1;
     let mut rows = plan(line);
-    Box::new(move || (0..TOGETHER).for_each(|_| open_and_close(calls, &mut rows, line)))
+    Box::new(move || (0..TOGETHER).for_each(|_| open_and_close(calls, &mut rows, line, period)))
 }
 
 /// The plan has so many lines while that line is open.
 fn changes(calls: Calls, lines: usize) -> Task {
-    changes_in(calls, plan_of, lines)
+    changes_in(calls, plan_of, lines, 480)
 }
 
 /// The same in a plan with nodes below nodes, whose lines but one take one edge of the root.
 fn changes_deep(calls: Calls, lines: usize) -> Task {
-    changes_in(calls, deep_plan_of, lines)
+    changes_in(calls, deep_plan_of, lines, 480)
+}
+
+/// The open splits the root, and the close joins it again.
+fn changes_that_split(calls: Calls, lines: usize) -> Task {
+    changes_in(calls, plan_of, lines, SPLIT_PERIOD)
 }
 
 /// One list on an empty plan.
@@ -132,7 +143,7 @@ struct Measured {
     task: fn(Calls, usize) -> Task,
 }
 
-const MEASURED: [Measured; 9] = [
+const MEASURED: [Measured; 10] = [
     Measured {
         name: "owner, owned round",
         lines: &LINES,
@@ -190,6 +201,13 @@ const MEASURED: [Measured; 9] = [
         task: changes_deep,
     },
     Measured {
+        name: "open with close, split and joined",
+        lines: &SPLIT_LINES,
+        calls: TOGETHER,
+        repetitions: 300,
+        task: changes_that_split,
+    },
+    Measured {
         name: "list, each order",
         lines: &LINES,
         calls: ORDERS,
@@ -244,7 +262,7 @@ pub fn profile(mut words: impl Iterator<Item = String>) {
     let mut number = || words.next().and_then(|word| word.parse().ok());
     let row: usize = number().expect(
         "a row: 0 owned round, 1 idle round, 2 owner under 11 nodes, 3 sheet, 4 reason, 5 the same in a deep plan, \
-         6 open with close, 7 the same in a deep plan, 8 list",
+         6 open with close, 7 the same in a deep plan, 8 the same that splits and joins, 9 list",
     );
     let lines: usize = number().expect("a number of lines");
     let times: usize = number().expect("a number of tasks");

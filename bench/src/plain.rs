@@ -2,6 +2,7 @@
 
 pub mod book;
 mod change;
+mod joining;
 mod list;
 mod owner;
 pub mod paths;

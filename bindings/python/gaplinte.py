@@ -316,7 +316,7 @@ class Plan:
         return Reason(None if value == _STEP_DOES_NOT_DIVIDE else value)
 
     def close(self, line: int) -> None:
-        """Closes a line. Refused with 1 or 4."""
+        """Closes a line. Other lines can have shorter paths then, and keep their periods and starts. Refused with 1 or 4."""
         _value(_library.gaplinte_close(self._record, _number(line)))
 
     def owner(self, round: int) -> Owner:

@@ -95,9 +95,9 @@ class MarkedCases(Case):
     def test_i(self):
         orders = (REPOSITORY / "examples/case-i.orders").read_bytes()
         plan = Plan()
-        answers = [(0, 0), (0, 1), (5, None), (0, None), (5, None), (4, None)]
+        answers = [(0, 0), (0, 1), (5, None), (0, None), (0, 1), (4, None)]
         self.assertEqual(plan.run_list(orders), answers)
-        self.assertEqual(plan.lines(), [(1, 6, 0)])
+        self.assertEqual(plan.lines(), [(1, 6, 0), (3, 3, 1)])
 
     def test_earliest_start(self):
         plan = Plan()
@@ -369,10 +369,13 @@ class Reasons(Case):
         self.refused(10, plan.reason, 2, 2, 2, 0)
         self.refused(5, plan.open, 4, 2)
         plan.close(2)
-        self.assertEqual(self.reasons(plan, 2, *above), [1, 1])
+        # The root and the node above the 4 are joined.
+        self.assertEqual(self.reasons(plan, 2, (0, 0, 0)), [1])
         self.refused(12, plan.reason, 2, 0, 0, 1)
+        self.refused(10, plan.reason, 2, 1, 0, 0)
         self.refused(10, plan.reason, 2, 1, 1, 0)
         self.assertEqual(plan.open(4, 2), 1)
+        self.assertEqual(self.reasons(plan, 2, *above), [1, 1])
         self.assertEqual(plan.reason(2, 0, 0, 1), Reason(line=4))
 
     def test_the_lowest_number_at_any_depth(self):

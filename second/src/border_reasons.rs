@@ -167,13 +167,13 @@ fn case_a() -> AskedPlan {
     }
 }
 
-/// Line k has period 2^k and stands under edge 0 of the node of level k − 1. The last edge of
-/// line 11 is its weight in the end.
+/// Line k has period 2^k and stands under edge 0 of the node of level k − 1. When line 10 closes,
+/// the two last nodes are joined. The last edge of line 11 is its weight in the end.
 fn case_f() -> AskedPlan {
     let powers: Vec<u64> = (1..=11).map(|power| 1 << power).collect();
     AskedPlan {
         calls: opens_in_turn(&powers),
-        changes: vec![Step::Close(10), Step::Write(263, 2)],
+        changes: vec![Step::Close(10), Step::Write(261, 4)],
         asked: vec![
             [1, 0, 0, 0],
             [2, 0, 0, 1],

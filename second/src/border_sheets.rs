@@ -91,7 +91,7 @@ fn plans() -> Vec<(Vec<Step>, Vec<Step>)> {
         // stands where a node does
         (
             opens_in_turn(&[4, 6, 8, 2, 12]),
-            vec![Close(2), Open(2, 24), Write(49, 3), Write(25, 1)],
+            vec![Close(2), Open(2, 24), Write(49, 1), Write(25, 1)],
         ),
         // no idle round; then one of the 6 closes
         (opens_in_turn(&[3, 6, 9, 6, 9, 9]), vec![Close(4)]),
@@ -300,7 +300,7 @@ mod tests {
             (MOST, 300, &past, 112),
         ];
         assert_printed(CASE_A, 0, &made);
-        // line 2 is closed, then 24@1, then 24@19
+        // line 2 is closed, then 24@1, then 24@13
         let closed: Columns = (MOST - 3, 9, &[(1, 3), (3, 1), (5, 1)], 4);
         assert_printed(CASE_A, 1, &[closed]);
         let opened: [Columns; 2] = [
@@ -308,8 +308,11 @@ mod tests {
             (MOST - 200, 500, &[(1, 125), (2, 21), (3, 63), (5, 41)], 250),
         ];
         assert_printed(CASE_A, 2, &opened);
-        let written: Columns = (0, 400, &[(1, 100), (2, 16), (3, 50), (5, 34)], 200);
-        assert_printed(CASE_A, 3, &[written]);
+        let written: [Columns; 2] = [
+            (0, 400, &[(1, 100), (2, 17), (3, 50), (5, 34)], 199),
+            (MOST - 3, 9, &[(1, 3), (2, 1), (3, 1), (5, 1)], 3),
+        ];
+        assert_printed(CASE_A, 3, &written);
     }
 
     /// Counted by hand: 3@0, 6@1, 9@2, 6@4, 9@5 and 9@8 in runs of 18 rounds, where 2^64 leaves

@@ -1,5 +1,5 @@
-//! The marked cases A to I of document 01, case C as in document 02, Ask 6, and the mistakes
-//! that they and cases of our own catch.
+//! The marked cases A to I of document 01, case C as in document 02, Ask 6, case I as in Ask 8,
+//! and the mistakes that they and cases of our own catch.
 
 use crate::ask::{owner, show, turns, Owner, Row};
 use crate::book;
@@ -77,19 +77,22 @@ fn case_a_trees() {
     assert_eq!(plan, plan_of(node(2, [(0, even), (1, odd)])));
 }
 
-/// Empty nodes are dropped, split ones stay split (Closing a line, 1 and 3).
+/// Empty nodes are dropped (Closing a line, 1 and 2), and of those that remain above the line
+/// each is joined that can be (Ask 8, 2 and 3): first the node of the lines 0 and 2, not the root,
+/// whose nodes have the weights 4 and 3; then the root, and the node of weight 2 under it stays,
+/// since beside it stands line 1. In the end nothing is left to be joined.
 #[test]
 fn closing_in_case_a() {
     let mut plan = opened(&[(4, 0), (6, 1), (8, 2), (12, 3)]);
     plan.close(0).unwrap();
-    let even = under(2, [(1, under(2, [(0, L(2))]))]);
+    let even = under(4, [(1, L(2))]);
     let odd = under(3, [(0, L(1)), (1, under(2, [(0, L(3))]))]);
-    assert_eq!(plan, plan_of(node(2, [(0, even), (1, odd.clone())])));
+    assert_eq!(plan, plan_of(node(2, [(0, even), (1, odd)])));
     plan.close(2).unwrap();
-    assert_eq!(plan, plan_of(node(2, [(1, odd)])));
+    let three = under(2, [(0, L(3))]);
+    assert_eq!(plan, plan_of(node(6, [(1, L(1)), (3, three)])));
     plan.close(3).unwrap();
-    let odd = under(3, [(0, L(1))]);
-    assert_eq!(plan, plan_of(node(2, [(1, odd)])));
+    assert_eq!(plan, plan_of(node(6, [(1, L(1))])));
     plan.close(1).unwrap();
     assert_eq!(plan, Plan::empty());
 }
@@ -202,10 +205,27 @@ fn case_i() {
 2 0 2 2 0 1
 3 0 3 3 5 -
 4 1 2 0 0 -
-5 0 3 3 5 -
+5 0 3 3 0 1
 6 1 2 0 4 -
 ";
     assert_eq!(out, expected);
+}
+
+/// The trees of case I, each derived by hand: the split by the 2 is taken back when it closes, and
+/// the 3 splits the root anew.
+#[test]
+fn case_i_trees() {
+    let mut plan = opened(&[(6, 0), (2, 1)]);
+    let split = node(2, [(0, under(3, [(0, L(0))])), (1, L(1))]);
+    assert_eq!(plan, plan_of(split));
+    refused(&mut plan, 2, 3, NoCandidate);
+    plan.close(1).unwrap();
+    assert_eq!(plan, opened(&[(6, 0)]));
+    assert_eq!(plan, plan_of(node(6, [(0, L(0))])));
+    assert_eq!(plan.open(2, 3), Ok(Start(1)));
+    let split = node(3, [(0, under(2, [(0, L(0))])), (1, L(2))]);
+    assert_eq!(plan, plan_of(split));
+    assert_eq!(plan.close(1), Err(LineNotOpen));
 }
 
 /// Each check of an open before the later ones (Refusals, sequence).

@@ -193,12 +193,15 @@ mod tests {
     #[test]
     fn other_steps_stay_and_a_larger_count_adds() {
         for shape in Shape::ALL {
-            let script = generated(5, 6, shape);
-            assert!(generated(5, 9, shape).starts_with(&script));
+            let without = |count: u64| {
+                let calls = generated_calls(5, count, shape);
+                with_sheets(&with_trials(&calls, 5), 5)
+            };
+            let script = with_reasons(&without(6), 5);
+            assert!(with_reasons(&without(9), 5).starts_with(&script));
             assert!(script.iter().any(is_reason));
             let others = script.into_iter().filter(|step| !is_reason(step));
-            let calls = generated_calls(5, 6, shape);
-            assert!(others.eq(with_sheets(&with_trials(&calls, 5), 5)));
+            assert!(others.eq(without(6)));
         }
     }
 

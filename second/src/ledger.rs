@@ -99,7 +99,7 @@ fn assert_plan_agrees(plan: &Plan, ledger: &Ledger) {
 }
 
 /// Runs one list order by order; every answer, every start and the form are checked
-/// after each order, so that no split moves a start.
+/// after each order, so that no split and no joining moves a start.
 fn run_checked(list: &[u8]) -> (Plan, Ledger) {
     let (mut plan, mut ledger) = (Plan::empty(), Ledger::new());
     for order in list.chunks_exact(ORDER_BYTES) {
@@ -196,6 +196,11 @@ fn deep_lists_agree_with_the_ledger() {
 #[test]
 fn prime_lists_agree_with_the_ledger() {
     check_lists(Shape::Primes, 24, 120);
+}
+
+#[test]
+fn joining_lists_agree_with_the_ledger() {
+    check_lists(Shape::Joining, 26, 120);
 }
 
 /// Closes every line that is still open after a list (Closing a line, 2).

@@ -1,6 +1,6 @@
 //! A second implementation of document 01 and, of document 02, Ask 1, Ask 3, Ask 4, Ask 5,
-//! Ask 6 and Ask 7, written from these documents alone. It writes the outputs that the proved
-//! program is tested against.
+//! Ask 6, Ask 7 and Ask 8, written from these documents alone. It writes the outputs that the
+//! proved program is tested against.
 //!
 //! Comments cite document 01 as (section, sentence), counted within the section; the one
 //! word before the items of Opening a line is not counted. (Refusals, 3) is refusal 3 of
@@ -10,6 +10,7 @@
 
 pub mod ask;
 pub mod book;
+pub mod border_joins;
 pub mod border_owners;
 pub mod border_reasons;
 pub mod border_rests;
@@ -18,8 +19,10 @@ pub mod border_trials;
 pub mod border_turns;
 pub mod drawn_reasons;
 pub mod drawn_sheets;
+pub mod drawn_shows;
 pub mod drawn_trials;
 pub mod head;
+pub mod joining;
 pub mod list_cases;
 pub mod list_script;
 pub mod lists;
@@ -40,9 +43,13 @@ pub mod walker;
 #[cfg(test)]
 mod cases;
 #[cfg(test)]
+mod joined_plans;
+#[cfg(test)]
 mod ledger;
 #[cfg(test)]
 mod naive;
+#[cfg(test)]
+mod naive_joining;
 #[cfg(test)]
 mod offers;
 #[cfg(test)]

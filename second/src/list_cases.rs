@@ -1,12 +1,16 @@
 //! `second list-script cases`: lists and lent bytes of every shape, damaged records, every
-//! refusal that a list can give, malformed orders, the named cases, and the longest list, as a
-//! script (`list_script.rs`).
+//! refusal that a list can give, malformed orders, the named cases, closes that join nodes or just
+//! do not, and the longest list, as a script (`list_script.rs`).
 
+use crate::ask::{show, ROWS};
+use crate::border_joins::{self, ClosedPlan};
 use crate::list_script::{owners, Step, MOST_ROOM};
 use crate::long_list::{self, MOST_ORDERS};
 use crate::orders::{answers_length, pack, LONGEST_LIST, ORDER_BYTES};
+use crate::record::{Held, LINE_NUMBERS};
 use crate::script;
 use crate::shapes::Shape;
+use crate::tree::Plan;
 use std::collections::BTreeSet;
 
 /// The whole script.
@@ -20,6 +24,7 @@ pub fn cases() -> Vec<Step> {
         refusals(),
         malformed_orders(),
         named_cases(),
+        closes_that_join(),
         longest_list(),
     ]
     .concat()
@@ -220,19 +225,62 @@ fn malformed_orders() -> Vec<Step> {
 
 /// (Marked cases, A to I) and `earliest_start`, as far as orders can hold them.
 fn named_cases() -> Vec<Step> {
+    let mut steps = Vec::new();
+    for case in script::named_cases() {
+        steps.push(Step::Begin);
+        steps.extend(run_all(&orders_of(&case), 2));
+        steps.extend(owners([0, 1, 7, 9, 10, 1 << 32, u64::MAX]));
+    }
+    steps
+}
+
+/// The opens and closes that orders can hold.
+fn orders_of(calls: &[script::Step]) -> Vec<OrderBytes> {
     let order = |call: &script::Step| match *call {
         script::Step::Open(line, period) => pack(0, line, period).ok(),
         script::Step::Close(line) => pack(1, line, 0).ok(),
         _ => None,
     };
-    let mut steps = Vec::new();
-    for case in script::named_cases() {
-        let orders: Vec<OrderBytes> = case.iter().filter_map(order).collect();
-        steps.push(Step::Begin);
-        steps.extend(run_all(&orders, 2));
-        steps.extend(owners([0, 1, 7, 9, 10, 1 << 32, u64::MAX]));
+    calls.iter().filter_map(order).collect()
+}
+
+/// The plans of `border_joins.rs` (document 02, Ask 8). The first close is made in the list that
+/// opens the lines, each other in a list of its own.
+fn closes_that_join() -> Vec<Step> {
+    let plans = border_joins::plans().into_iter();
+    plans.flat_map(|it| closed(&it)).collect()
+}
+
+/// After each close the numbers of every line are asked.
+fn closed(plan: &ClosedPlan) -> Vec<Step> {
+    let mut held = Held::empty();
+    let mut steps = vec![Step::Begin];
+    for &call in &plan.calls {
+        script::change(&mut held, call);
+        if let script::Step::Write(place, number) = call {
+            steps.push(Step::Write { place, number });
+        }
+    }
+    let mut orders = orders_of(&plan.calls);
+    for &line in &plan.closes {
+        script::change(&mut held, script::Step::Close(line));
+        orders.push(close(line));
+        steps.extend(run_all(&orders, 1));
+        orders.clear();
+        let lines = plan.lines().into_iter();
+        steps.extend(lines.flat_map(|line| numbers_of(line, &held.plan)));
     }
     steps
+}
+
+/// Those of the rows that a line has in the plan, and of the row after them.
+fn numbers_of(line: u64, plan: &Plan) -> Vec<Step> {
+    let path = show(plan, line).map(|shown| shown.path);
+    let used = path.map_or(0, |path| path.iter().filter(|row| row.weight > 0).count());
+    let first = line * LINE_NUMBERS as u64;
+    let count = 2 * (used + 1).min(ROWS) as u64;
+    let places = first..first + count;
+    places.map(|place| Step::Number { place }).collect()
 }
 
 /// 21,845 orders: refused with one byte too little, run with a few bytes more, and refused
@@ -265,12 +313,14 @@ mod tests {
         String::from_utf8(text).unwrap()
     }
 
-    /// (Marked cases, I), and the owners after it, when 6@0 alone is open.
+    /// (Marked cases, I), the fifth answer as in Ask 8, and the owners after it: 6@0 and 3@1 are
+    /// open, and 2^32 and 2^64 leave 1 when divided by 3.
     #[test]
     fn case_i_prints_its_answers() {
         let text = printed(&named_cases());
-        let expected = "plan\nlist 18 14 0\n0000 0001 5000 0000 5000 4000\nbeyond 2 ee ee\n\
-            owner 0 1\nowner 1 idle 5\n";
+        let expected = "plan\nlist 18 14 0\n0000 0001 5000 0000 0001 4000\nbeyond 2 ee ee\n\
+            owner 0 1\nowner 1 3\nowner 7 3\nowner 9 idle 1\nowner 10 3\n\
+            owner 4294967296 3\nowner 18446744073709551615 idle 1\n";
         assert!(text.contains(expected), "{text}");
     }
 
@@ -285,6 +335,45 @@ mod tests {
             owner 0 0\nowner 1 5\nowner 7 idle 1\nowner 9 5\nowner 10 2\n\
             owner 4294967296 0\nowner 18446744073709551615 idle 1\n";
         assert!(text.ends_with(earliest_start), "{text}");
+    }
+
+    /// `number PLACE NUMBER` of every number that is asked of a line.
+    fn numbers(line: u64, numbers: &[u16]) -> String {
+        let places = (line * LINE_NUMBERS as u64..).zip(numbers);
+        let lines = places.map(|(place, number)| format!("number {place} {number}\n"));
+        lines.collect()
+    }
+
+    /// As found by hand in `border_joins.rs`: of the numbers of a line that is closed the first two
+    /// are asked, of the others those of one row more than there are.
+    #[test]
+    fn records_after_closes_that_join() {
+        let text = printed(&closes_that_join());
+        let no_node_goes = [
+            "plan\nlist 9 7 0\n0000 0001 0000\nbeyond 1 ee\n".to_string(),
+            numbers(1, &[6, 0, 0, 0]),
+            numbers(2, &[0, 0]),
+        ];
+        assert!(text.contains(&no_node_goes.concat()), "{text}");
+        let deepest_first = [
+            "plan\nlist 15 11 0\n0000 0001 0002 0004 0000\nbeyond 1 ee\n".to_string(),
+            numbers(1, &[0, 0]),
+            numbers(2, &[3, 1, 2, 0, 2, 0, 0, 0]),
+            numbers(3, &[3, 2, 4, 0, 0, 0]),
+            numbers(4, &[3, 1, 2, 1, 0, 0]),
+            "list 3 3 0\n0000\nbeyond 1 ee\n".to_string(),
+            numbers(1, &[0, 0]),
+            numbers(2, &[12, 1, 0, 0]),
+            numbers(3, &[12, 2, 0, 0]),
+            numbers(4, &[0, 0]),
+        ];
+        assert!(text.contains(&deepest_first.concat()), "{text}");
+        let ten_times = [
+            "list 3 3 0\n0000\nbeyond 1 ee\n".to_string(),
+            numbers(1, &[2_048, 2_047, 0, 0]),
+            numbers(2, &[0, 0]),
+        ];
+        assert!(text.ends_with(&ten_times.concat()), "{text}");
     }
 
     /// 7 comes before 8, and a refused list changes neither the plan nor a lent byte.

@@ -17,7 +17,8 @@ const USAGE: &str = "usage: second book
        second list-script cases
        second list-script SEED COUNT SHAPE
        second list-answers
-SEED, COUNT and ORDERS (at most 21845) are decimal, SHAPE is sparse, full, deep or primes";
+SEED, COUNT and ORDERS (at most 21845) are decimal, SHAPE is sparse, full, deep, primes
+or joining";
 
 enum Call {
     Book,

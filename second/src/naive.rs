@@ -11,8 +11,8 @@ use std::collections::BTreeMap;
 
 /// One node with its position.
 pub(crate) struct Placed<'a> {
-    node: &'a Node,
-    position: Position,
+    pub(crate) node: &'a Node,
+    pub(crate) position: Position,
 }
 
 /// All nodes of the plan.

@@ -88,3 +88,8 @@ fn no_two_offers_are_one_start_in_deep_plans() {
 fn no_two_offers_are_one_start_in_prime_plans() {
     check_plans(Shape::Primes, 50, 20_000);
 }
+
+#[test]
+fn no_two_offers_are_one_start_in_joining_plans() {
+    check_plans(Shape::Joining, 30, 20_000);
+}

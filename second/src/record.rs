@@ -11,7 +11,7 @@ use crate::tree::{Node, Plan, Start, Under, LAST_LINE, LAST_PERIOD};
 use std::collections::BTreeMap;
 
 /// Numbers of one line.
-const LINE_NUMBERS: usize = 2 * ROWS;
+pub(crate) const LINE_NUMBERS: usize = 2 * ROWS;
 
 /// Numbers in a record.
 pub const RECORD_NUMBERS: usize = LINE_NUMBERS * (LAST_LINE as usize + 1);

@@ -102,3 +102,8 @@ fn deep_plans() {
 fn prime_plans() {
     check_plans(Shape::Primes, 12, 15_000);
 }
+
+#[test]
+fn joining_plans() {
+    check_plans(Shape::Joining, 6, 10_000);
+}

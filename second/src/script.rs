@@ -25,6 +25,7 @@
 //! none, which counts as the empty plan: `record.rs` says which.
 
 use crate::ask::{owner, show, turns, Owner, Shown};
+use crate::border_joins::border_joins;
 use crate::border_owners::border_owners;
 use crate::border_reasons::border_reasons;
 use crate::border_rests::border_rests;
@@ -33,6 +34,7 @@ use crate::border_trials::border_trials;
 use crate::border_turns::border_turns;
 use crate::drawn_reasons::with_reasons;
 use crate::drawn_sheets::with_sheets;
+use crate::drawn_shows::with_shows;
 use crate::drawn_trials::with_trials;
 use crate::head::{self, HEAD_BYTES};
 use crate::lists;
@@ -121,8 +123,8 @@ impl Step {
 
 /// The named cases, then walks at the borders of a place's numbers, turns at those of a first
 /// round, owners and rests at those of a round, trials at those of a line and a period, sheets at
-/// those of a first round and a number of rounds, and reasons at those of a period, a level, an
-/// offset and a class.
+/// those of a first round and a number of rounds, reasons at those of a period, a level, an offset
+/// and a class, and closes that join nodes or just do not.
 pub fn cases() -> Vec<Step> {
     let named = named_cases().into_iter();
     let begun = named.flat_map(|case| [vec![Step::Begin], case].concat());
@@ -134,6 +136,7 @@ pub fn cases() -> Vec<Step> {
         border_trials(),
         border_sheets(),
         border_reasons(),
+        border_joins(),
     ];
     begun.chain(borders.concat()).collect()
 }
@@ -214,10 +217,11 @@ fn border_walks() -> Vec<Step> {
         .collect()
 }
 
-/// Calls on generated lists' plans, and trials, sheets and reasons among them.
+/// Calls on generated lists' plans, and trials, sheets, reasons and shows among them.
 pub fn generated(seed: u64, count: u64, shape: Shape) -> Vec<Step> {
     let calls = generated_calls(seed, count, shape);
-    with_reasons(&with_sheets(&with_trials(&calls, seed), seed), seed)
+    let with_sheets = with_sheets(&with_trials(&calls, seed), seed);
+    with_shows(&with_reasons(&with_sheets, seed))
 }
 
 /// Opens and closes of generated lists (`lists`), every eighth with a line or a period that
@@ -238,9 +242,10 @@ pub(crate) fn generated_calls(seed: u64, count: u64, shape: Shape) -> Vec<Step> 
         }
         steps.extend(questions(18, &held, &mut random));
         for _ in 0..3 {
+            let write = written(drawn_write(&held.record, &mut random));
             let changes = [
-                written(drawn_write(&held.record, &mut random)),
-                Step::Close(random.below(64)),
+                write,
+                drawn_close(write, &held, &mut random),
                 Step::Open(random.below(64), 0),
                 Step::Open(random.below(64), 1 + random.below(4_095)),
             ];
@@ -252,6 +257,18 @@ pub(crate) fn generated_calls(seed: u64, count: u64, shape: Shape) -> Vec<Step> 
         }
     }
     steps
+}
+
+/// Half the time of a line that has rows in the record that the write leaves, if one has, else of
+/// any line.
+fn drawn_close(write: Step, held: &Held, random: &mut Random) -> Step {
+    let mut held = held.clone();
+    change(&mut held, write);
+    let lines = held.record.lines_with_rows();
+    if lines.is_empty() || random.below(2) == 0 {
+        return Step::Close(random.below(64));
+    }
+    Step::Close(random.pick(&lines))
 }
 
 /// Owner, show, turns and walks, at rounds near 0, 2^32 and 2^64.
@@ -621,8 +638,8 @@ pub(crate) mod tests {
 
     #[test]
     fn generated_scripts_bring_every_answer() {
-        let text: String = ["sparse", "full", "deep", "primes"]
-            .map(|shape| answers(&generated(1, 40, Shape::named(shape).unwrap())))
+        let text: String = Shape::ALL
+            .map(|shape| answers(&generated(1, 40, shape)))
             .concat();
         for answer in ["1 -", "2 -", "3 -", "5 -"] {
             assert!(text
@@ -803,7 +820,7 @@ pub(crate) mod tests {
     fn reasons_have_every_outcome_often() {
         assert_often(&cases(), [150, 30, 300, 1_000, 250, 50]);
         for shape in Shape::ALL {
-            assert_often(&generated(1, 10, shape), [300, 15, 25, 80, 100, 120]);
+            assert_often(&generated(1, 10, shape), [250, 15, 15, 100, 100, 120]);
         }
         assert_often(&stored_lists(), [3_900, 1_000, 140, 400, 1_800, 2_000]);
     }

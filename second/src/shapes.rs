@@ -3,6 +3,7 @@
 use crate::orders::{pack, ORDER_BYTES};
 use crate::random::Random;
 use crate::tree::{LAST_LINE, LAST_PERIOD};
+use std::ops::Range;
 
 /// The shapes of generated lists.
 #[derive(Clone, Copy, Debug, PartialEq, Eq)]
@@ -15,6 +16,8 @@ pub enum Shape {
     Deep,
     /// Primes and products of two primes.
     Primes,
+    /// Products of small primes, where closes join what opens split.
+    Joining,
 }
 
 /// Lines, periods and shares of one list.
@@ -22,6 +25,8 @@ pub struct Stock {
     /// Number of orders.
     pub orders: u64,
     pub lines: Vec<u64>,
+    /// The lines that closes are drawn from, one that is to be closed more often several times.
+    pub closed: Vec<u64>,
     pub periods: Vec<u64>,
     /// Periods are mostly taken one after the other, not at random; the first time over, all
     /// lines and periods are.
@@ -52,7 +57,13 @@ const SMALL_PRIMES: [u64; 18] = [
 const LARGE_PRIMES: [u64; 5] = [1_021, 2_039, 4_079, 4_091, 4_093];
 
 impl Shape {
-    pub const ALL: [Shape; 4] = [Shape::Sparse, Shape::Full, Shape::Deep, Shape::Primes];
+    pub const ALL: [Shape; 5] = [
+        Shape::Sparse,
+        Shape::Full,
+        Shape::Deep,
+        Shape::Primes,
+        Shape::Joining,
+    ];
 
     pub fn named(name: &str) -> Option<Shape> {
         match name {
@@ -60,6 +71,7 @@ impl Shape {
             "full" => Some(Shape::Full),
             "deep" => Some(Shape::Deep),
             "primes" => Some(Shape::Primes),
+            "joining" => Some(Shape::Joining),
             _ => None,
         }
     }
@@ -71,6 +83,7 @@ impl Shape {
             Shape::Full => full(random),
             Shape::Deep => deep(random),
             Shape::Primes => primes(random),
+            Shape::Joining => joining(random),
         }
     }
 }
@@ -96,6 +109,7 @@ fn sparse(random: &mut Random) -> Stock {
     }
     Stock {
         orders,
+        closed: lines.clone(),
         lines,
         periods,
         periods_in_turn: false,
@@ -112,6 +126,7 @@ fn full(random: &mut Random) -> Stock {
     periods.push(random.pick(&STRANGERS));
     Stock {
         orders,
+        closed: lines.clone(),
         lines,
         periods,
         periods_in_turn: false,
@@ -133,11 +148,12 @@ fn deep(random: &mut Random) -> Stock {
     }
     Stock {
         orders,
+        closed: lines.clone(),
         lines,
         periods,
         periods_in_turn: true,
-        opens: 72,
-        closes: 18,
+        opens: 76,
+        closes: 14,
     }
 }
 
@@ -166,12 +182,80 @@ fn primes(random: &mut Random) -> Stock {
     periods.push(random.pick(&LARGE_PRIMES));
     Stock {
         orders,
+        closed: lines.clone(),
         lines,
         periods,
         periods_in_turn: false,
         opens: 74,
         closes: 17,
     }
+}
+
+/// The first time over, the opens split nodes. Most closes are of the lines that stand beside what
+/// was split, so that it is joined.
+fn joining(random: &mut Random) -> Stock {
+    let orders = 90 + random.below(41);
+    let (periods, staying) = match random.below(3) {
+        0 => root_split_again_and_again(random),
+        1 => equal_nodes_split(random),
+        _ => root_over_lines_and_nodes_split(random),
+    };
+    let lines = lines_from_any(random, periods.len() as u64);
+    let places = 0..lines.len();
+    let closed = places.flat_map(|at| vec![lines[at]; if staying.contains(&at) { 1 } else { 8 }]);
+    Stock {
+        orders,
+        closed: closed.collect(),
+        lines,
+        periods,
+        periods_in_turn: true,
+        opens: 52,
+        closes: 42,
+    }
+}
+
+/// Periods in the sequence of their opens, and the places among them of the lines that are seldom
+/// closed.
+type Opens = (Vec<u64>, Range<usize>);
+
+/// A number times one, two and more factors, the longest product first.
+fn falling_products(random: &mut Random, number: u64, factors: usize) -> Vec<u64> {
+    let mut product = number;
+    let mut products = Vec::new();
+    for _ in 0..factors {
+        product *= random.pick(&[2, 2, 3, 3, 5]);
+        products.push(product);
+    }
+    products.reverse();
+    products
+}
+
+/// Each open splits the root, as long as a class is free. When the first line alone is left, the
+/// root is joined as often as it was split.
+fn root_split_again_and_again(random: &mut Random) -> Opens {
+    (falling_products(random, 1, 5), 0..1)
+}
+
+/// A line under edge 0 of the root, and under each other edge a node, all of one weight, which are
+/// split after that. Without the first line, what joins the last of them joins the root too.
+fn equal_nodes_split(random: &mut Random) -> Opens {
+    let edges = random.pick(&[3, 3, 4]);
+    let products = falling_products(random, edges, 3);
+    let nodes = edges as usize - 1;
+    let equal = vec![products[0]; nodes];
+    let periods = [&[edges], equal.as_slice(), &products[1..]].concat();
+    (periods, 1..1 + nodes)
+}
+
+/// The root has a line and nodes when it is split. A new node that has nodes only could be joined,
+/// but stays till a line below it closes. Later opens bring about more of these.
+fn root_over_lines_and_nodes_split(random: &mut Random) -> Opens {
+    let edges = random.pick(&[3, 4]);
+    let first = edges * random.pick(&[2, 3]);
+    let longer = first * random.pick(&[2, 3, 5]);
+    let nodes = vec![longer; edges as usize - 2];
+    let periods = [&[first], nodes.as_slice(), &[edges], &[longer; 6]].concat();
+    (periods, 1..2)
 }
 
 /// Draws the orders of one list.
@@ -208,7 +292,7 @@ impl Drawing {
     }
 
     fn close(&mut self, random: &mut Random) -> [u8; ORDER_BYTES] {
-        let line = random.pick(&self.stock.lines);
+        let line = random.pick(&self.stock.closed);
         pack(1, line, 0).expect("the stock is within the fields")
     }
 
@@ -260,7 +344,9 @@ mod tests {
     use super::*;
     use crate::ask::show;
     use crate::orders::{read, Order};
+    use crate::reason::nodes;
     use crate::tree::Plan;
+    use crate::trial::trial;
     use std::collections::BTreeSet;
 
     /// Prime factors, each as often as it divides.
@@ -326,12 +412,38 @@ mod tests {
         assert_eq!(most, BTreeSet::from([9, 10, 11]));
     }
 
+    /// Of the periods opened in turn at least one splits a node. When all lines are closed but
+    /// those that are seldom closed, one node is left.
+    #[test]
+    fn closes_of_joining_lists_join_what_was_split() {
+        let mut random = Random::new(9);
+        for _ in 0..200 {
+            let stock = Shape::Joining.stock(&mut random);
+            let mut plan = Plan::empty();
+            let mut splits = 0;
+            for (&line, &period) in stock.lines.iter().zip(&stock.periods) {
+                let told = trial(&plan, line, period);
+                splits += usize::from(told.is_ok_and(|told| told.split));
+                let _ = plan.open(line, period);
+            }
+            assert!(splits > 0, "{:?}", stock.periods);
+            for &line in &stock.lines {
+                let times = stock.closed.iter().filter(|&&closed| closed == line);
+                if times.count() > 1 {
+                    let _ = plan.close(line);
+                }
+            }
+            assert_eq!(nodes(&plan).len(), 1, "{:?} {plan:?}", stock.periods);
+        }
+    }
+
     #[test]
     fn every_stock_is_within_the_fields() {
         let mut random = Random::new(6);
         for shape in Shape::ALL.repeat(100) {
             let stock = shape.stock(&mut random);
             assert!(stock.lines.iter().all(|&line| line <= 63));
+            assert!(stock.closed.iter().all(|it| stock.lines.contains(it)));
             assert!(stock.periods.iter().all(|p| (1..=4_095).contains(p)));
             assert!(stock.opens + stock.closes < 100);
         }
@@ -339,7 +451,7 @@ mod tests {
 
     #[test]
     fn shapes_are_named() {
-        let names = ["sparse", "full", "deep", "primes"];
+        let names = ["sparse", "full", "deep", "primes", "joining"];
         let shapes: Vec<Shape> = names.iter().filter_map(|it| Shape::named(it)).collect();
         assert_eq!(shapes, Shape::ALL);
         assert_eq!(Shape::named("Sparse"), None);

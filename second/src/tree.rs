@@ -1,5 +1,5 @@
 //! Document 01, sections The tree, Opening a line and Closing a line; document 02, Ask 6: which
-//! candidate an open takes.
+//! candidate an open takes. What a close joins (document 02, Ask 8) is in `joining.rs`.
 
 use crate::refusal::Refusal;
 use std::collections::BTreeMap;
@@ -188,7 +188,7 @@ impl Node {
     }
 
     /// Groups the edges by residue modulo d, so that old starts stay (Opening a line, 6).
-    fn split(&mut self, d: u16) {
+    pub(crate) fn split(&mut self, d: u16) {
         let new_weight = self.weight / d;
         let mut new_nodes: BTreeMap<u16, Node> = BTreeMap::new();
         for (edge, under) in std::mem::take(&mut self.edges) {
@@ -274,11 +274,14 @@ impl Plan {
         Ok(root.carry_out(&candidate, line, period))
     }
 
-    /// A root without edges is dropped too (Closing a line, 2).
+    /// A root without edges is dropped too (Closing a line, 2). What remains of the nodes above
+    /// the line is joined, where it can be, whether or not a node was dropped (Ask 8, 2).
     pub fn close(&mut self, line: u64) -> Result<(), Refusal> {
         let line = self.check_open_line(line)?;
         if let Some(root) = &mut self.root {
+            let edges_to_line = root.edges_to(line).unwrap_or_default();
             root.remove(line);
+            root.join_upwards(&edges_to_line);
         }
         if self.root.as_ref().is_some_and(|root| root.edges.is_empty()) {
             self.root = None;

@@ -165,13 +165,13 @@ mod tests {
         }
     }
 
-    /// What is split stays so: the 2 opens once more without a split.
+    /// What was split is joined when the 2 closes, so that the 2 and the 3 split it again (Ask 8).
     #[test]
     fn case_i() {
-        tried(&plan_of(&[6], &[]), &[(2, Ok((1, 1, SPLIT)))]);
+        let of_6 = [(2, Ok((1, 1, SPLIT))), (3, Ok((1, 1, SPLIT)))];
+        tried(&plan_of(&[6], &[]), &of_6);
         tried(&plan_of(&[6, 2], &[]), &[(3, Err(5))]);
-        let plan = plan_of(&[6, 2], &[2]);
-        tried(&plan, &[(3, Err(5)), (2, Ok((1, 0, WHOLE)))]);
+        tried(&plan_of(&[6, 2], &[2]), &of_6);
     }
 
     /// One new node for each class with edges, however many edges it has.
@@ -194,17 +194,16 @@ mod tests {
         tried(&plan, &[(4, Ok((3, 1, SPLIT))), (8, Ok((3, 2, SPLIT)))]);
     }
 
-    /// The earliest candidate says whether a node is split (Ask 6, 2). First the root offers 0,
-    /// and its node of weight 6 would be split for 3; then that node is split for 1, and the other
-    /// node of the root, which has room, offers 2.
+    /// The earliest candidate says whether a node is split (Ask 6, 2). First the root, with a line
+    /// under edge 0, offers 1, and its node of weight 6 would be split for 5. In the other plan the
+    /// root is full, its node of weight 4 is split for 1, and its node of weight 3, which has room,
+    /// offers 2.
     #[test]
     fn the_earliest_candidate_is_whole_or_split() {
-        let plan = plan_of(&[2, 12], &[1]);
-        tried(&plan, &[(4, Ok((0, 1, WHOLE))), (8, Ok((0, 1, WHOLE)))]);
-        let mut plan = plan_of(&[2, 12, 12], &[1]);
-        assert_eq!(plan.open(4, 4), Ok(Start(0)));
-        plan.close(2).unwrap();
-        tried(&plan, &[(4, Ok((1, 1, SPLIT))), (8, Ok((1, 2, SPLIT)))]);
+        let plan = plan_of(&[3, 3, 18], &[2]);
+        tried(&plan, &[(6, Ok((1, 1, WHOLE))), (12, Ok((1, 1, WHOLE)))]);
+        let plan = plan_of(&[6, 8, 8], &[2]);
+        tried(&plan, &[(12, Ok((1, 2, SPLIT))), (36, Ok((1, 2, SPLIT)))]);
     }
 
     /// The open is made, and its plan compared with the one before, by level and offset. Start and

@@ -1,5 +1,6 @@
 //! Opening and closing a line.
 
+use super::joining::join_up;
 use super::paths::{is_closed, legal, length, same_node};
 use super::search::{best_candidate, open_lines, Spot};
 use super::{plan_in_mut, refused, Path, Plan, EMPTY, ROWS};
@@ -72,16 +73,19 @@ pub fn open_line(plan: &mut Plan, line: u64, period: u64) -> i64 {
     }
 }
 
-/// Closes a line in a plan that is a tree.
+/// Closes a line in a plan that is a tree. The nodes that remain above it are joined, where they can be.
 pub fn close_line(plan: &mut Plan, line: u64) -> i64 {
     if 63 < line {
         return refused(1);
     }
-    let path = &mut plan[line as usize];
-    if length(path) == 0 {
+    let line = line as usize;
+    let path = plan[line];
+    let count = length(&path);
+    if count == 0 {
         return refused(4);
     }
-    *path = CLOSED;
+    plan[line] = CLOSED;
+    join_up(plan, &path[..count]);
     0
 }
 

@@ -154,7 +154,20 @@ impl Plan {
         outcome(value).map(Reason::told)
     }
 
-    /// Closes a line.
+    /// Closes a line. The nodes left above it are joined where they can be: other lines can have shorter paths then,
+    /// and keep their periods and starts.
+    ///
+    /// ```
+    /// use gaplinte::{Line, Period, Plan, Refusal};
+    ///
+    /// let mut plan = Plan::new();
+    /// plan.open(Line(1), Period(6))?;
+    /// plan.open(Line(2), Period(2))?;
+    /// assert_eq!(plan.open(Line(3), Period(3)), Err(Refusal::NoCandidate));
+    /// plan.close(Line(2))?; // joins the nodes of weights 2 and 3 above line 1
+    /// assert!(plan.open(Line(3), Period(3)).is_ok());
+    /// # Ok::<(), Refusal>(())
+    /// ```
     ///
     /// # Errors
     ///

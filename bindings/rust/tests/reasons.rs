@@ -45,8 +45,8 @@ fn refused_with_5() -> Plan {
     plan
 }
 
-/// Each class of each node has a reason. Without the 8 each still has one; without the 6 class 1 of the root has none,
-/// and the 2 is booked there.
+/// Each class of each node has a reason. Without the 8 each still has one; without the 6 the root and the node above
+/// the 4 are joined, class 1 of the root has none, and the 2 is booked there.
 #[test]
 fn taken_away_one_after_the_other() {
     let mut plan = refused_with_5();
@@ -62,10 +62,12 @@ fn taken_away_one_after_the_other() {
     let refused = plan.open(Line(4), Period(2));
     assert_eq!(refused, Err(Refusal::NoCandidate));
     assert_eq!(plan.close(Line(2)), Ok(()));
-    expect(&plan, 2, &above);
+    expect(&plan, 2, &above[..1]);
     expect(&plan, 2, &[(0, 0, 1, Err(Refusal::NoLineInClass))]);
-    expect(&plan, 2, &[(1, 1, 0, Err(Refusal::NoNode))]);
+    let no_node = Err(Refusal::NoNode);
+    expect(&plan, 2, &[(1, 0, 0, no_node), (1, 1, 0, no_node)]);
     assert_eq!(plan.open(Line(4), Period(2)), Ok(Start(1)));
+    expect(&plan, 2, &above);
     expect(&plan, 2, &[(0, 0, 1, line(4))]);
 }
 

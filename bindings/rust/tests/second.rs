@@ -1,5 +1,5 @@
 //! The same calls put to the second program, which is written from document 01 and, of document 02, Ask 1, Ask 3, Ask 4,
-//! Ask 5, Ask 6 and Ask 7; Ask 2 changes no answer. Every answer agrees.
+//! Ask 5, Ask 6, Ask 7 and Ask 8; Ask 2 changes no answer. Every answer agrees.
 
 mod drawn;
 
@@ -244,10 +244,8 @@ fn same_reasons(plan: &Plan, other: &tree::Plan, random: &mut Random) -> Vec<Res
     told.collect()
 }
 
-/// Owner, show, turns, sheets, the open lines and the walker on two plans that should have the same tree.
-fn ask_both(plan: &Plan, other: &tree::Plan, random: &mut Random) {
-    same_owners(plan, other, rounds(random));
-    same_lines(plan, other);
+/// What show answers of every line, row by row.
+fn same_paths(plan: &Plan, other: &tree::Plan) {
     for line in 0..66 {
         let shown = numbered(plan.show(Line(line))).map(|shown| {
             let rows = shown.rows.map(|row| (row.weight, row.edge));
@@ -258,6 +256,15 @@ fn ask_both(plan: &Plan, other: &tree::Plan, random: &mut Random) {
             (shown.period.0.into(), shown.start.0.into(), rows)
         });
         assert_eq!(shown, expected, "line {line}");
+    }
+}
+
+/// Owner, show, turns, sheets, the open lines and the walker on two plans that should have the same tree.
+fn ask_both(plan: &Plan, other: &tree::Plan, random: &mut Random) {
+    same_owners(plan, other, rounds(random));
+    same_lines(plan, other);
+    same_paths(plan, other);
+    for line in 0..66 {
         same_turns(plan, other, line, random);
     }
     for _ in 0..SHEETS {
@@ -282,10 +289,18 @@ fn ask_both(plan: &Plan, other: &tree::Plan, random: &mut Random) {
     }
 }
 
-/// Opens and closes, with some arguments out of range and some far out of range.
+/// A close that was done gave another line another path.
+fn joined(before: &Plan, line: u64, after: &Plan) -> bool {
+    let shown = |plan: &Plan, other| plan.show(Line(other)).map(|it| it.rows);
+    (0..64).any(|other| other != line && shown(before, other) != shown(after, other))
+}
+
+/// Opens and closes, with some arguments out of range and some far out of range. After each close that was done every
+/// path is that of the second program, and many closes join nodes.
 #[test]
 fn calls() {
     let mut random = Random::new(12);
+    let mut joins = 0;
     for list in lists() {
         let mut plan = Plan::new();
         let mut other = tree::Plan::empty();
@@ -301,14 +316,20 @@ fn calls() {
                 }
                 Ok(Order::Close { line }) => {
                     let line = if wide < 4096 { line.into() } else { wide };
+                    let before = plan.clone();
                     let answer = plan.close(Line(line));
                     assert_eq!(numbered(answer), numbered_second(other.close(line)));
+                    if answer.is_ok() {
+                        same_paths(&plan, &other);
+                        joins += usize::from(joined(&before, line, &plan));
+                    }
                 }
                 Err(_) => continue,
             }
         }
         ask_both(&plan, &other, &mut random);
     }
+    assert!(joins > 200, "{joins}");
 }
 
 /// What the second program tells of each order of a list.

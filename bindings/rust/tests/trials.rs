@@ -166,10 +166,11 @@ fn marked_cases() {
     opened(&[first(2), (3, NO_CANDIDATE)]);
     opened(&[first(4095)]);
     expect(&Plan::new(), &[1, 2, 12, 4095].map(first));
-    // Case I: the split by the 2 remains when its line is closed.
-    let mut plan = opened(&[first(6), (2, Ok((1, 1, true))), (3, NO_CANDIDATE)]);
+    // Case I: what the 2 splits is joined when its line is closed.
+    let split = Ok((1, 1, true));
+    let mut plan = opened(&[first(6), (2, split), (3, NO_CANDIDATE)]);
     assert_eq!(plan.close(Line(2)), Ok(()));
-    expect(&plan, &[(3, NO_CANDIDATE), (2, Ok((1, 0, false)))]);
+    expect(&plan, &[(3, split), (2, split)]);
 }
 
 /// Tries and opens lines, each with a period: start and nodes added are these, and no node is split.
@@ -222,8 +223,8 @@ fn classes_of_a_split() {
     expect(&two_edges_of_12(), &periods);
 }
 
-/// Under edge 1 of the root a node of weight 4 and step 2, whose edge 0 leads to the 8. Without the 2 the root offers
-/// 0, and no node is split.
+/// Under edge 1 of the root a node of weight 4 and step 2, whose edge 0 leads to the 8. Without the 2 both are joined:
+/// the root has weight 8, offers 0, and is split.
 #[test]
 fn a_split_below_the_root() {
     let mut plan = opened(&[(2, Ok((0, 1, false))), (8, Ok((1, 1, false)))]);
@@ -236,19 +237,27 @@ fn a_split_below_the_root() {
     ];
     expect(&plan, &periods);
     assert_eq!(plan.close(Line(1)), Ok(()));
-    expect(&plan, &[4, 12].map(|period| (period, Ok((0, 1, false)))));
+    expect(&plan, &[(4, Ok((0, 1, true))), (12, Ok((0, 2, true)))]);
 }
 
-/// Under edge 0 of the root a node of weight 2, which offers 2. Under edge 1 one of weight 6, whose edge 1 leads to the
-/// second 12: it offers 1, and would be split.
+/// Under edge 0 of the root stands the first 3. Under edge 2 a node of weight 6, which offers 5, and would be split. The
+/// root offers 1, and no node is split.
+#[test]
+fn an_earlier_start_without_a_split() {
+    let told = [(3, 0, 1), (3, 1, 0), (18, 2, 1)];
+    let mut plan = opened(&told.map(|(period, start, added)| (period, Ok((start, added, false)))));
+    assert_eq!(plan.close(Line(2)), Ok(()));
+    expect(&plan, &[6, 12].map(|period| (period, Ok((1, 1, false)))));
+}
+
+/// Under edge 0 of the root a node of weight 3, which offers 2. Under edge 1 one of weight 4, whose edge 1 leads to the
+/// second 8: it offers 1, and would be split.
 #[test]
 fn a_split_for_an_earlier_start() {
-    let told = [(2, 0, 1), (12, 1, 1), (12, 3, 0)];
-    let mut plan = opened(&told.map(|(period, start, added)| (period, Ok((start, added, false)))));
-    assert_eq!(plan.close(Line(1)), Ok(()));
-    assert_eq!(plan.open(Line(4), Period(4)), Ok(Start(0)));
+    let told = [(6, (0, 1, false)), (8, (1, 2, true)), (8, (3, 0, false))];
+    let mut plan = opened(&told.map(|(period, figures)| (period, Ok(figures))));
     assert_eq!(plan.close(Line(2)), Ok(()));
-    expect(&plan, &[(4, Ok((1, 1, true))), (8, Ok((1, 2, true)))]);
+    expect(&plan, &[12, 36].map(|period| (period, Ok((1, 2, true)))));
 }
 
 #[test]
@@ -445,7 +454,7 @@ fn trial_of_a_first_line(line: Line, period: Period) -> Result<Trial, Refusal> {
 #[test]
 fn damaged_records() {
     let mut seen = [0; 2];
-    each_overwritten(17, 50, |plan, random| {
+    each_overwritten(17, 80, |plan, random| {
         let (line, period) = (Line(random.below(66)), Period(random.below(4098)));
         let told = open_as_tried(&mut plan.clone(), line, period);
         seen[usize::from(plan.is_tree())] += 1;

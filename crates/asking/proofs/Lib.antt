@@ -3,8 +3,6 @@ pub mod EdgeTaken
 pub mod PathEnd
 pub mod Walking
 pub mod Visiting
--- The path as 11 rows
-pub mod ElevenRows
 -- Turns
 pub mod TurnsByDivision
 -- The figures of a sheet

@@ -2,14 +2,9 @@
 -- Assumes nothing.
 use Rattle.std.specs.Prelude.{ℕ, Bool, not, ◌&&◌, List, eqb, Option}
 use Rattle.tree.specs.declared.Row.{Row}
-use Rattle.tree.specs.declared.line.Line.{Line}
 use Rattle.tree.specs.Search.{smallest}
 use Rattle.tree.specs.Record.{no_rows}
 use Rattle.paths.specs.Rules.{Family, row_of, same_node}
-
--- a line, as the rules name it
-abbrev pub line_number : Line → ℕ
-line_number line = line.number
 
 -- line N takes edge e of the node at level l of path ps
 unfoldable pub takes_edge : Family → List Row → ℕ → ℕ → ℕ → Bool

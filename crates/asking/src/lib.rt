@@ -4,18 +4,18 @@
 
 ghost use Rattle.std.specs.Prelude.{◌≡◌, suc, ◌+◌, ◌/◌, ◌<◌, eqb, length, option_map};
 ghost use Rattle.tree.specs.Tree.{product, sum};
-ghost use Rattle.tree.specs.Asking.{rows_11};
 ghost use Rattle.tree.specs.Record.{path_at};
+ghost use Rattle.tree.specs.Answered.{line_number};
 ghost use Rattle.bridge.specs.Rows.{tree_of_rows};
 ghost use Rattle.paths.specs.Rules.{line_under, walk_on_paths, owner_on_paths};
-ghost use Rattle.asking.specs.Answers.{line_number, takes_edge, first_open};
+ghost use Rattle.asking.specs.Answers.{takes_edge, first_open};
 ghost use Rattle.asking.specs.Visits.{Visits};
 
 use crate::round::Round;
 use crate::times::Times;
 use paths::record::TreeRecord;
 use tree::line::Line;
-use tree::{Period, Row, Start};
+use tree::{Period, Start};
 
 pub mod rest;
 pub mod round;
@@ -124,16 +124,4 @@ pub fn times_of(tree: TreeRecord<'_>, line: Line) -> Times
         period: Period(product),
         start: Start(sum),
     }
-}
-
-// A line's path as 11 rows, unused ones 0 and 0: the record's own rows, since those after a path are 0 and 0 there too.
-// It is built row by row, as document 01 has it.
-pub fn rows_of(tree: TreeRecord<'_>, line: Line) -> [Row; 11]
-    ensures { result ≡ rows_11 (path_at tree.entry.rows.now line.number) }
-{
-    let mut path = [Row { weight: 0, edge: 0 }; 11];
-    for row in 0..11 {
-        path[row] = paths::row(tree.rows, line, row);
-    }
-    path
 }

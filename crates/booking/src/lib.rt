@@ -14,7 +14,7 @@ use tree::{Period, Row};
 
 // Row k of a line becomes another one.
 #[tactic(auto, unfolding(crate::specs::Writing::set_row))]
-fn put_row(rows: &mut [u16; 1408], line: Line, k: usize, row: Row)
+pub fn put_row(rows: &mut [u16; 1408], line: Line, k: usize, row: Row)
     requires { k < 11 }
     ensures { rows.new ≡ set_row rows.old line.number k row }
 {

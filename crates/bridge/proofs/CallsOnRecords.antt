@@ -3,13 +3,15 @@
 use Rattle.std.specs.Prelude.{if◌then◌else◌, Option, None, Some}
 use Prim.Native.Nat.{ℕ, ◌<◌, ◌≤◌}
 use native.Mathlib.Omega.{arith}
-use mathlib.Core.Path.{◌≡◌, sym, ◌∙◌, ap, subst}
+use mathlib.Core.Path.{◌≡◌, sym, ◌∙◌, ap, ap₂, subst}
 use mathlib.Core.Bool.{Bool, true, false, not, ◌&&◌, and-false}
 use mathlib.Core.List.{List, [], ◌∷◌}
 use lib.ListN.{length}
+use Rattle.tree.specs.declared.Plan.{Plan}
 use Rattle.tree.specs.Search.{found}
 use Rattle.tree.specs.Tree.{Tree, nothing, present, row, is_open, Place}
 use Rattle.tree.specs.Opening.{opened, start_given}
+use Rattle.tree.specs.Closing.{cleared, joined_up, closed}
 use Rattle.tree.specs.Refusals.{no_room, period_out_of_range, open_refusal}
 use Rattle.tree.specs.Calls.{Call, open_line, close_line, booked, done, refused, refusal, reply, carried_out, answer_unless, answer}
 use Rattle.tree.specs.Record.{path_at, no_rows, legal, record_of}
@@ -18,9 +20,12 @@ use Rattle.tree.proofs.UnderEdge.{stands_present}
 use Rattle.tree.proofs.Standing.{open_stands}
 use Rattle.tree.proofs.Checks.{open_last_check, close_allowed, open_may}
 use Rattle.tree.proofs.Opening.{MayOpen, start_empty}
-use Rattle.bridge.specs.Rows.{tree_of_rows, rows_unless, rows_after, CarriedOut}
+use Rattle.bridge.specs.Rows.{plan_of, tree_of_rows, rows_unless, rows_after, LegalWith, CarriedOut}
+use Rattle.tree.proofs.Clearing.{cleared_legal}
 use Rattle.bridge.proofs.TreeOfRecord.{legal_on_record, paths_on_record, open_on_record}
-use Rattle.bridge.proofs.ClosedRecord.{closed_record}
+use Rattle.bridge.proofs.ClearedRecord.{cleared_record}
+use Rattle.bridge.proofs.RecordRoundTrip.{tree_has_record}
+use Rattle.bridge.proofs.CarriedLegal.{recorded}
 use Rattle.bridge.proofs.FirstRecord.{AllClosed, all_closed_nothing, first_record}
 use Rattle.bridge.proofs.SearchOnPaths.{FoundSpot, search_none, search_some}
 use Rattle.bridge.proofs.BookedRecord.{booked_record, booked_start}
@@ -50,12 +55,26 @@ module _ (rows : List ℕ) (is_legal : legal rows ≡ true) (long : length rows 
 
   -- Close
 
-  pub close_on : (L : ℕ) → L ≤ 63 → no_rows (path_at rows L) ≡ false → CarriedOut (close_line L) rows (set_line rows L []) done
-  unfolding refusal reply carried_out tree_of_rows
-  close_on L number there =
-      carried_on (close_line L) rows (set_line rows L [])
-      (close_allowed L t number (open_on_record rows is_legal L (omega arith) ∙ ap not there))
-      (closed_record (record { rows = rows }) L (omega arith) is_legal long)
+  -- the line taken out
+  pub cleared_on : (L : ℕ) → L < 64 → LegalWith (set_line rows L []) (cleared L t)
+  unfolding tree_of_rows
+  cleared_on L below = rw (cleared_record (plan_of rows) L below is_legal long) (recorded (cleared L t) (cleared_legal L t (legal_on_record rows)))
+
+  -- what is left of its nodes joined
+  module _ (L : ℕ) (left : List ℕ) (left_long : length left ≡ 1408) (number : L ≤ 63) where
+    closed_with : LegalWith left (joined_up (path_at rows L) (tree_of_rows (set_line rows L []))) → LegalWith left (closed L t)
+    unfolding closed
+    closed_with joined =
+        let below : L < 64 = omega arith in
+        record { is_legal = joined.is_legal; tree_is = joined.tree_is ∙ ap₂ joined_up (paths_on_record rows is_legal L below) (cleared_on L below).tree_is }
+
+    pub close_on : no_rows (path_at rows L) ≡ false → LegalWith left (joined_up (path_at rows L) (tree_of_rows (set_line rows L []))) → CarriedOut (close_line L) rows left done
+    unfolding refusal reply carried_out tree_of_rows
+    close_on there joined =
+        let closed_left = closed_with joined in
+        carried_on (close_line L) rows left
+        (close_allowed L t number (open_on_record rows is_legal L (omega arith) ∙ ap not there))
+        (ap (λ (plan : Plan). plan.rows) (sym (tree_has_record (plan_of left) closed_left.is_legal left_long)) ∙ ap (λ (x : Tree). (record_of x).rows) closed_left.tree_is)
 
   -- Open
 

@@ -22,7 +22,7 @@ unfolding refusal carried_out
 carried_out_legal (open_line L p) t is_legal allowed = opened_legal L p t (open_may L p t is_legal allowed)
 carried_out_legal (close_line L) t is_legal allowed = closed_legal L t is_legal
 
-recorded : (t : Tree) → Legal t → LegalWith (record_of t).rows t
+pub recorded : (t : Tree) → Legal t → LegalWith (record_of t).rows t
 unfolding tree_of_rows
 recorded t is_legal = record { is_legal = record_legal t is_legal; tree_is = record_has_tree t is_legal }
 

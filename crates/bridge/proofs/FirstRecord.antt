@@ -17,7 +17,7 @@ use Rattle.paths.specs.Rules.{set_line}
 use Rattle.paths.proofs.RowLaws.{no_rows_empty}
 use Rattle.bridge.proofs.RecordBlocks.{set_line_record}
 use Rattle.bridge.proofs.RouteOpening.{opened_path_empty, opened_path_empty_other}
-use Rattle.bridge.proofs.ClosedRecord.{legal_block}
+use Rattle.bridge.proofs.ClearedRecord.{legal_block}
 
 -- no line is open in the record
 unfoldable pub AllClosed : List ℕ → Type 0

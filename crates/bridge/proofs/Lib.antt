@@ -3,9 +3,11 @@ pub mod NodePath
 pub mod SameTree
 -- Paths after closing and opening
 pub mod Route
-pub mod RouteClosing
+pub mod RouteClearing
 pub mod RouteBooking
 pub mod RouteOpening
+-- Nodes joined, level by level
+pub mod JoinLevels
 -- The search over paths finds the chosen candidate of the tree
 pub mod NodesOnPaths
 pub mod ClassOnPaths
@@ -22,7 +24,7 @@ pub mod Grown
 pub mod TreeOfRecord
 pub mod LegalPaths
 -- The record of the tree that a call leaves
-pub mod ClosedRecord
+pub mod ClearedRecord
 pub mod RecordRoundTrip
 pub mod BookedRecord
 pub mod TrialOnPaths
@@ -36,3 +38,8 @@ pub mod PeriodAsked
 pub mod WalkOnPaths
 -- Asking a record
 pub mod AskingRecords
+-- Nodes joined
+pub mod RouteAlong
+pub mod JoinedPaths
+pub mod WeightOnPaths
+pub mod JoinedRecord

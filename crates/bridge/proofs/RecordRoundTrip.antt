@@ -29,7 +29,7 @@ use Rattle.bridge.proofs.SameTree.{same_paths_same_tree}
 use Rattle.bridge.proofs.TreeOfRecord.{tree_of_legal, tree_of_path, tree_of_path_beyond}
 use Rattle.paths.proofs.RangeLaws.{EdgesBelow, path_edges_below}
 use Rattle.bridge.proofs.LegalPaths.{legal_path_in_range, paths_part}
-use Rattle.bridge.proofs.ClosedRecord.{block_of_tree}
+use Rattle.bridge.proofs.ClearedRecord.{block_of_tree}
 
 -- Paths of a legal tree
 

@@ -14,7 +14,7 @@ use Rattle.tree.specs.Shape.{Edges}
 use Rattle.tree.proofs.Searching.{found_some}
 use Rattle.tree.proofs.Proper.{Proper}
 use Rattle.tree.proofs.Standing.{path_below, path_of_line, stands_open}
-use Rattle.tree.proofs.Closing.{proper_present_line}
+use Rattle.tree.proofs.Clearing.{proper_present_line}
 use Rattle.bridge.proofs.NodePath.{path_under, path_under_edge}
 
 -- Where something stands, some line has a path

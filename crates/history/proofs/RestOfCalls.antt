@@ -17,7 +17,7 @@ use Rattle.tree.proofs.Searching.{found_some}
 use Rattle.tree.proofs.UnderEdge.{stands_present}
 use Rattle.tree.proofs.Proper.{legal_proper}
 use Rattle.tree.proofs.Standing.{open_stands, stands_open}
-use Rattle.tree.proofs.Closing.{proper_present_line}
+use Rattle.tree.proofs.Clearing.{proper_present_line}
 use Rattle.tree.proofs.Resting.{rest_is_rest, rest_at_most, rest_0_exactly, idle_exactly}
 use Rattle.bridge.specs.Rows.{tree_of_rows}
 use Rattle.bridge.proofs.TreeOfRecord.{tree_of_legal, legal_on_record}

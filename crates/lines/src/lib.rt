@@ -11,6 +11,7 @@ ghost use Rattle.lines.specs.Answers.{open_answer, close_answer};
 ghost use Rattle.lines.specs.Bookable.{BookableAt, SplittableIfSmaller, split_if_smaller};
 
 use candidates::spot::Spot;
+use paths::path_rows::rows_of;
 use paths::record::TreeRecord;
 use tree::line::Line;
 use tree::refusal::Refusal;
@@ -18,12 +19,15 @@ use tree::{Period, Row, Start};
 
 pub mod check;
 
-// A line that is open goes.
+// A line that is open goes, and those of its ancestors that remain are joined. Its path is read before it goes.
 pub fn close_open_line(rows: &mut [u16; 1408], line: Line)
     requires { (legal rows.old ≡ true) × (no_rows (path_at rows.old line.number) ≡ false) }
     ensures { CarriedOut (close_line line.number) rows.old rows.new done }
 {
+    let count = paths::path_length(rows, line);
+    let path = rows_of(TreeRecord { rows }, line);
     booking::clear_line(rows, line);
+    joining::levels::join_up(rows, &path, count);
 }
 
 // Close: 1 for a line above 63, 4 for one that is not open; else the line goes.

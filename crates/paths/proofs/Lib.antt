@@ -15,8 +15,10 @@ pub mod RowLaws
 pub mod RangeLaws
 -- The whole record
 pub mod Blocks
-pub mod SplitLines
+pub mod ChangedLines
 pub mod LegalLines
+-- The path as 11 rows
+pub mod ElevenRows
 -- The lines passed by the check, in chains
 mod ChainLaws
 mod PassedLines
@@ -24,3 +26,5 @@ mod PassedLines
 pub mod PathNumbers
 -- The search over the paths
 pub mod PickedSpots
+-- Nodes joined on the paths
+pub mod JoiningPaths

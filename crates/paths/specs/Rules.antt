@@ -1,10 +1,10 @@
 -- The rules as the code follows them, over the paths of the lines. Nothing here has to be believed: that these are the rules
 -- over the tree is proved (crate bridge).
 -- Assumes nothing.
-use Rattle.std.specs.Prelude.{ℕ, zero, suc, ◌+◌, ◌*◌, ◌/◌, ◌%◌, Bool, true, false, not, ◌&&◌, List, [], ◌∷◌, ◌++◌, eqb, ltb, length, get_or, take, drop, if◌then◌else◌, Option, None, Some, option_map}
+use Rattle.std.specs.Prelude.{ℕ, zero, suc, ◌+◌, ◌*◌, ◌/◌, ◌%◌, Bool, true, false, not, ◌&&◌, ◌||◌, List, [], ◌∷◌, ◌++◌, eqb, ltb, length, get_or, take, drop, if◌then◌else◌, Option, None, Some, option_map}
 use Rattle.tree.specs.declared.Row.{Row}
 use Rattle.tree.specs.Numbers.{divides}
-use Rattle.tree.specs.Search.{smallest, some_below, smaller_by, count_below}
+use Rattle.tree.specs.Search.{passing, smallest, some_below, all_below, smaller_by, count_below}
 use Rattle.tree.specs.Tree.{row, product, sum, Place}
 use Rattle.tree.specs.Opening.{divisor}
 use Rattle.tree.specs.Asking.{rows_11}
@@ -90,11 +90,15 @@ split_path l d [] = []
 split_path zero d (r ∷ rs) = row d (r.edge % d) ∷ row (r.weight / d) (r.edge / d) ∷ rs
 split_path (suc l) d (r ∷ rs) = r ∷ split_path l d rs
 
+-- the record with the paths changed of those lines below n that a test takes
+unfoldable pub change_lines : List ℕ → (ℕ → Bool) → (List Row → List Row) → ℕ → List ℕ
+change_lines rows taken change zero = rows
+change_lines rows taken change (suc n) =
+    if taken n then set_line (change_lines rows taken change n) n (change (path_at rows n)) else change_lines rows taken change n
+
 -- the record with the node at level l of path ps split by d, on the lines below n
-unfoldable pub split_lines : List ℕ → List Row → ℕ → ℕ → ℕ → List ℕ
-split_lines rows ps l d zero = rows
-split_lines rows ps l d (suc n) =
-    if same_node l ps (path_at rows n) then set_line (split_lines rows ps l d n) n (split_path l d (path_at rows n)) else split_lines rows ps l d n
+abbrev pub split_lines : List ℕ → List Row → ℕ → ℕ → ℕ → List ℕ
+split_lines rows ps l d = change_lines rows (λ M. same_node l ps (path_at rows M)) (split_path l d)
 
 -- the path of a line booked into class i of the node below the given rows
 unfoldable pub booked_path : List Row → ℕ → ℕ → ℕ → List Row
@@ -106,6 +110,21 @@ booked_at rows L p s =
     let ps = path_at rows s.line in
     let split = if ltb s.divisor (row_of s.level ps).weight then split_lines rows ps s.level s.divisor 64 else rows in
     set_line split L (booked_path (take s.level ps) s.divisor s.class (p / (s.step * s.divisor)))
+
+-- A close, written into the record: nodes are joined
+
+-- a path whose node at level l was joined with the one below it
+unfoldable pub join_path : ℕ → List Row → List Row
+join_path l [] = []
+join_path zero (r ∷ []) = r ∷ []
+join_path zero (r ∷ s ∷ rs) = row (r.weight * s.weight) (r.edge + r.weight * s.edge) ∷ rs
+join_path (suc l) (r ∷ rs) = r ∷ join_path l rs
+
+-- the one weight at level l + 1 of the lines that a test takes, none where one of them ends above it, or two differ there
+unfoldable pub weight_below_on_paths : Family → (ℕ → Bool) → ℕ → Option ℕ
+weight_below_on_paths family taken l =
+    passing (λ v. not (eqb v 0) && all_below 64 (λ M. not (taken M) || eqb (row_of (suc l) (family M)).weight v))
+    (option_map (λ M. (row_of (suc l) (family M)).weight) (smallest 64 taken))
 
 -- A trial, over the paths
 

@@ -15,6 +15,7 @@ use tree::line::Line;
 
 mod chains;
 mod passed;
+pub mod path_rows;
 pub mod record;
 pub mod tree_record;
 

@@ -9,6 +9,7 @@ ghost use Rattle.plan.specs.Ask.{owner_answer, shown_in};
 use crate::lookup::find_line;
 use crate::record::PlanRecord;
 use asking::round::Round;
+use paths::path_rows::rows_of;
 use paths::record::TreeRecord;
 use paths::tree_record::tree_record;
 use tree::refusal::Refusal;
@@ -60,7 +61,7 @@ pub fn show<P: PlanRecord>(plan: &P, line: u64) -> Result<Shown, Refusal>
     Ok(Shown {
         period: times.period,
         start: times.start,
-        rows: asking::rows_of(tree, line),
+        rows: rows_of(tree, line),
     })
 }
 

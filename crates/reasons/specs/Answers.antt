@@ -1,7 +1,6 @@
 -- What this crate's functions answer, in the terms of the rules and of the paths (crate paths, specs/Rules.antt).
 -- Assumes nothing.
 use Rattle.std.specs.Prelude.{ℕ, ◌≡◌, Option, None, Some}
-use Rattle.tree.specs.declared.line.Line.{Line}
 use Rattle.tree.specs.Reason.{Reason, step_does_not_divide, line_stands}
 use Rattle.paths.specs.Rules.{Family, line_through}
 use Rattle.candidates.specs.declared.spot.PathNode.{PathNode}
@@ -13,10 +12,6 @@ use Rattle.reasons.specs.declared.Reason.TheVariants.{StepDoesNotDivide, Line as
 unfoldable pub reason_told : Told → Reason
 reason_told StepDoesNotDivide = step_does_not_divide
 reason_told (LineInTheWay L) = line_stands L
-
--- a line, as the rules name it
-abbrev pub line_number : Line → ℕ
-line_number line = line.number
 
 -- the node at level l and offset r that was found on the path of the line of smallest number that goes through it, if any does
 unfoldable pub NodeFound : Family → ℕ → ℕ → Option PathNode → Type 0

@@ -6,10 +6,11 @@ ghost use Rattle.tree.specs.Tree.{Place};
 ghost use Rattle.tree.specs.Calls.{reason_outcome};
 ghost use Rattle.tree.specs.Answered.{outcome_of};
 ghost use Rattle.tree.specs.Record.{path_at};
+ghost use Rattle.tree.specs.Answered.{line_number};
 ghost use Rattle.bridge.specs.Rows.{tree_of_rows};
 ghost use Rattle.paths.specs.Rules.{line_of_class, reason_on_path};
 ghost use Rattle.candidates.specs.SearchedTo.{NodeOf};
-ghost use Rattle.reasons.specs.Answers.{line_number, reason_told, NodeFound};
+ghost use Rattle.reasons.specs.Answers.{reason_told, NodeFound};
 
 use candidates::gcd;
 use candidates::spot::PathNode;

@@ -18,9 +18,9 @@ use Rattle.tree.specs.Closing.{closed}
 use Rattle.tree.specs.Refusals.{open_refusal}
 use Rattle.tree.specs.Calls.{Call, open_line, close_line, refusal, reply, carried_out, answer_unless, tree_unless, answer, after}
 use Rattle.tree.specs.Lists.{Booking, Ledger, all_closed, with_line, enter, Entry, calls_of, ledger_from, reference_from, answered_from}
+use Rattle.tree.proofs.Closing.{closed_stands, stands_closed, closed_legal}
 use Rattle.tree.proofs.Standing.{stands_open, open_stands}
 use Rattle.tree.proofs.Opening.{MayOpen, opened_legal, opened_new, opened_others, opened_only}
-use Rattle.tree.proofs.Closing.{closed_stands, stands_closed, closed_legal}
 use Rattle.tree.proofs.Checks.{open_may}
 
 -- The tree is legal, and a line has a booking in the ledger exactly when it stands in the tree with that period and start.

@@ -174,7 +174,7 @@ module _ (d w : ℕ) (f : ℕ → Tree) (divides : d * (w / d) ≡ w) where
             λ j. subst (λ (n : ℕ). LegalUnder n (f (k + d * j))) (ap (λ (n : ℕ). m * n) (sym divides) ∙ sym (mul_assoc m d (w / d))) (legal.2 (k + d * j)),
           )
 
-  split_legal : (m k : ℕ) → 0 < d → LegalUnder m (node w f) → LegalUnder (m * d) (split d w f k)
+  pub split_legal : (m k : ℕ) → 0 < d → LegalUnder m (node w f) → LegalUnder (m * d) (split d w f k)
   unfolding LegalUnder
   split_legal m k positive legal =
       elim (dec_lt d w) [
@@ -186,7 +186,7 @@ module _ (d w : ℕ) (f : ℕ → Tree) (divides : d * (w / d) ≡ w) where
       ]
 
   -- nothing stands at or beyond the split node's weight
-  split_beyond : (k : ℕ) → 0 < d → Edges w f → d ≤ k → split d w f k ≡ nothing
+  pub split_beyond : (k : ℕ) → 0 < d → Edges w f → d ≤ k → split d w f k ≡ nothing
   split_beyond k positive edges beyond =
       elim (dec_lt d w) [
         | yes small ↦ rw (split_groups d w f small) (group_nothing d w f k (beyond_free d w f k positive beyond))

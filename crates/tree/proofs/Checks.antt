@@ -53,6 +53,10 @@ pub range_at_most : (p : ℕ) → period_out_of_range p ≡ false → p ≤ 4095
 unfolding period_out_of_range
 range_at_most p inside = ltb-false 4095 p (neither (eqb p 0) (ltb 4095 p) inside).1
 
+pub range_inside : (p : ℕ) → 0 < p → p ≤ 4095 → period_out_of_range p ≡ false
+unfolding period_out_of_range
+range_inside p positive most = rw (ne_eqb p 0 (λ zero. omega arith), le-ltb 4095 p most) refl
+
 pub open_may : (L p : ℕ) (t : Tree) → Legal t → open_refusal L p t ≡ None → MayOpen L p t
 unfolding open_refusal first_refusal earlier_checks line_above_63
 open_may L p t legal h =

@@ -22,7 +22,7 @@ use Rattle.tree.proofs.Proper.{legal_proper}
 use Rattle.tree.proofs.UnderEdge.{stands_present}
 use Rattle.tree.proofs.Ownership.{walk_owns, stands_walk}
 use Rattle.tree.proofs.ChosenCandidate.{chosen_none, no_candidate_chosen_none}
-use Rattle.tree.proofs.Closing.{proper_present_line}
+use Rattle.tree.proofs.Clearing.{proper_present_line}
 use Rattle.tree.proofs.Checks.{refused_earlier, refused_by_5, close_allowed, close_refused}
 use Rattle.tree.proofs.Numbering.{stands_number}
 use Rattle.tree.proofs.Standing.{stands_open}

@@ -63,7 +63,7 @@ at_most_11_above (node w f) L rs (inl legal) h =
 -- The step of a node
 
 -- a line stands under whatever is present, and its period is a multiple of the weights' product so far
-product_fits : (m : ℕ) (t : Tree) → LegalUnder m t → present t ≡ true → m ≤ 4095
+pub product_fits : (m : ℕ) (t : Tree) → LegalUnder m t → present t ≡ true → m ≤ 4095
 unfolding LegalUnder present
 product_fits m nothing legal here = absurd (false≢true here)
 product_fits m (line n) legal here = legal.1

@@ -5,10 +5,10 @@ use mathlib.Core.Path.{◌≡◌, refl}
 use mathlib.Core.List.{map}
 use lib.ListN.{set}
 use Rattle.tree.specs.Numbers.{divides, euclid, gcd}
-use Rattle.tree.specs.Search.{found, or_else, first, smaller_by, smallest_by, each_below, smallest, some_below, all_below, total_below, count_below}
-use Rattle.tree.specs.Tree.{Tree, nothing, node, present, product, sum_from, sum, path, is_open, path_of, period_of, start_of, Place, at_digits, at, way_by_digits, way, step, nodes}
+use Rattle.tree.specs.Search.{found, or_else, passing, first, smaller_by, smallest_by, each_below, smallest, some_below, all_below, total_below, count_below}
+use Rattle.tree.specs.Tree.{Tree, nothing, node, present, product, sum_from, sum, path, is_open, path_of, period_of, start_of, Place, at_digits, at, way_by_digits, way, step, weight_of, nodes}
 use Rattle.tree.specs.Opening.{divisor, free, free_class, candidate, class_at, start_at, under, best, chosen, put, one_edge, group, split, newcomer, booking, book_by_digits, book_into, opened, start_in, start_given}
-use Rattle.tree.specs.Closing.{prune, closed}
+use Rattle.tree.specs.Closing.{prune, cleared, of_weight, weight_below, under_edge, joined_with, join, join_times, join_fully, joined_up, closed}
 use Rattle.tree.specs.Asking.{owner, owned, rest, or_rest, owner_or_rest, rows_11, shown, is_line, owns, turns}
 use Rattle.tree.specs.Sheet.{line_turns, idle_rounds, sheet}
 use Rattle.tree.specs.Reason.{is_node, has_class, stands_in_class, line_in_class, reason}
@@ -16,11 +16,11 @@ use Rattle.tree.specs.Refusals.{first_refusal, line_above_63, period_out_of_rang
 use Rattle.tree.specs.Calls.{refusal, reply, carried_out, answer_unless, tree_unless, answer, after, gives_unless, show_outcome, turns_outcome, reason_outcome}
 use Rattle.tree.specs.Trial.{is_split, split_in, trial, trial_outcome}
 use Rattle.tree.specs.Record.{row_at, path_from, path_at, rows_in_range, alone, path_in_range, unused, rest_unused, parts, no_rows, together, legal, stand, grown, tree_of, numbers, numbers_below, record_of}
-use Rattle.tree.specs.Cases.{answered, next, replayed, left_by, shows, fits, lists, cases, bookings_A, questions_A, case_A, case_B, case_C, case_D, case_E, case_F, case_G, case_H, case_I, earliest_start, split_keeps_starts, emptied_is_fresh, checks_in_sequence, turns_from_a_round, step_2047, tried_then_opened, two_edges_in_a_class, rests, sheets, reasons}
+use Rattle.tree.specs.Cases.{answered, next, replayed, left_by, shows, fits, lists, cases, bookings_A, questions_A, case_A, case_B, case_C, case_D, case_E, case_F, case_G, case_H, case_I, earliest_start, split_keeps_starts, emptied_is_fresh, checks_in_sequence, turns_from_a_round, step_2047, tried_then_opened, two_edges_in_a_class, rests, sheets, reasons, nodes_joined}
 
 -- what there is to compute with: to unfold this is to unfold each definition that the line names
 computation : Unit {0}
-unfolding divides euclid gcd found or_else first smaller_by smallest_by each_below smallest some_below present product sum_from sum path is_open path_of period_of start_of at_digits at way_by_digits way step divisor free free_class candidate class_at start_at under best chosen put one_edge group split newcomer booking book_by_digits book_into opened start_in start_given prune closed owner owned rest or_rest owner_or_rest rows_11 shown is_line owns turns line_turns idle_rounds sheet first_refusal line_above_63 period_out_of_range no_room earlier_checks open_refusal line_refusal refusal reply carried_out answer_unless tree_unless answer after gives_unless show_outcome turns_outcome answered next replayed shows fits lists cases bookings_A questions_A case_A case_B case_C case_D case_E case_F case_G case_H case_I earliest_start split_keeps_starts emptied_is_fresh checks_in_sequence turns_from_a_round step_2047 tried_then_opened two_edges_in_a_class rests sheets reasons is_node has_class stands_in_class line_in_class reason reason_refusal reason_outcome nodes is_split split_in trial trial_outcome all_below total_below count_below left_by row_at path_from path_at rows_in_range alone path_in_range unused rest_unused parts no_rows together legal stand grown tree_of numbers numbers_below record_of
+unfolding divides euclid gcd found or_else passing weight_of first smaller_by smallest_by each_below smallest some_below present product sum_from sum path is_open path_of period_of start_of at_digits at way_by_digits way step divisor free free_class candidate class_at start_at under best chosen put one_edge group split newcomer booking book_by_digits book_into opened start_in start_given prune cleared of_weight weight_below under_edge joined_with join join_times join_fully joined_up closed owner owned rest or_rest owner_or_rest rows_11 shown is_line owns turns line_turns idle_rounds sheet first_refusal line_above_63 period_out_of_range no_room earlier_checks open_refusal line_refusal refusal reply carried_out answer_unless tree_unless answer after gives_unless show_outcome turns_outcome answered next replayed shows fits lists cases bookings_A questions_A case_A case_B case_C case_D case_E case_F case_G case_H case_I earliest_start split_keeps_starts emptied_is_fresh checks_in_sequence turns_from_a_round step_2047 tried_then_opened two_edges_in_a_class rests sheets reasons nodes_joined is_node has_class stands_in_class line_in_class reason reason_refusal reason_outcome nodes is_split split_in trial trial_outcome all_below total_below count_below left_by row_at path_from path_at rows_in_range alone path_in_range unused rest_unused parts no_rows together legal stand grown tree_of numbers numbers_below record_of
 computation = tt
 
 -- every case, replayed from the empty plan, gives the answers that the table has

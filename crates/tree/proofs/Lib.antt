@@ -25,7 +25,19 @@ pub mod BookingAt
 pub mod Opening
 pub mod Options
 -- Closing
+pub mod Clearing
+pub mod Joining
+pub mod JoinedUp
+pub mod JoinsEnd
+pub mod SomeCandidate
+pub mod JoinedCandidates
+pub mod SplitJoined
 pub mod Closing
+pub mod ClosedCandidates
+pub mod ClosedUnderEdge
+pub mod FitGivenBack
+pub mod OpensAgain
+pub mod ClosedOwners
 -- How large a tree can be
 pub mod Totals
 pub mod Depth

@@ -54,7 +54,7 @@ one_edge_no_fit p m i n (suc l) r h =
     put_each (λ (t : Tree). FitIn p m i (at_digits l (r / 1) t) → ⊥) 0 (line n) (λ e. nothing)
     (no_fit_in_line p m i n l (r / 1)) (λ e other. no_fit_in_nothing p m i l (r / 1)) (r % 1) h
 
-alone_no_fit : (p m i : ℕ) (t : Tree) (l r : ℕ) → Alone t → FitIn p m i (at_digits l r t) → ⊥
+pub alone_no_fit : (p m i : ℕ) (t : Tree) (l r : ℕ) → Alone t → FitIn p m i (at_digits l r t) → ⊥
 alone_no_fit p m i t l r alone fit =
     one_edge_no_fit p m i alone.number l r (subst (λ (x : Tree). FitIn p m i (at_digits l r x)) alone.tree fit)
 
@@ -83,13 +83,13 @@ unfolding start_given present
 start_empty p = refl
 
 -- where the line is booked in a tree that is not empty
-record Booked (L p : ℕ) (t : Tree) : Type 0 where
+pub record Booked (L p : ℕ) (t : Tree) : Type 0 where
   pub place : Place
   pub fits : FitIn p (1 * steps place.level place.offset t) (class_at p t place) (at_digits place.level place.offset t)
   pub tree : opened L p t ≡ book_by_digits L p (class_at p t place) 1 place.level place.offset t
   pub start : start_given p t ≡ place.offset + class_at p t place * steps place.level place.offset t
 
-booked_in : (L p : ℕ) (t : Tree) → MayOpen L p t → present t ≡ true → Booked L p t
+pub booked_in : (L p : ℕ) (t : Tree) → MayOpen L p t → present t ≡ true → Booked L p t
 unfolding opened book_into start_given start_in start_at step way
 booked_in L p t may here =
     let x = room_chosen p t here may.has_room in

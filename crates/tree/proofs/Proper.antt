@@ -6,8 +6,10 @@ use native.Mathlib.Decide.{ℕ_discrete}
 use mathlib.Core.Path.{◌≡◌, refl, sym, ◌∙◌, ap, subst}
 use mathlib.Core.Logic.{inl, inr}
 use mathlib.Core.Bool.{true, false, false≢true}
+use Rattle.std.specs.Prelude.{Some}
+use Rattle.std.proofs.lemmas.Option.{none-some, same_Some}
 use Rattle.tree.specs.Search.{found}
-use Rattle.tree.specs.Tree.{Tree, nothing, line, node, present, path, is_open}
+use Rattle.tree.specs.Tree.{Tree, nothing, line, node, present, path, is_open, weight_of}
 use Rattle.tree.specs.Opening.{put, one_edge}
 use Rattle.tree.specs.Shape.{Edges, LegalUnder, Legal}
 use Rattle.tree.proofs.Put.{put_same, put_other, put_each}
@@ -63,3 +65,10 @@ legal_proper (line n) h = absurd h
 legal_proper (node w f) (inl h) = legal_under_proper 1 (node w f) h
 legal_proper (node w f) (inr h) =
     subst Proper (sym h.tree) (one_edge_proper 1 (line h.number) (omega arith) refl tt)
+
+-- a node has a weight above 0
+pub node_of_weight : (v : ℕ) (t : Tree) → Proper t → weight_of t ≡ Some v → (0 < v) × (present t ≡ true)
+unfolding Proper weight_of present
+node_of_weight v nothing proper h = absurd (none-some v h)
+node_of_weight v (line n) proper h = absurd (none-some v h)
+node_of_weight v (node w f) proper h = (subst (λ (n : ℕ). 0 < n) (same_Some w v h) proper.0, refl)

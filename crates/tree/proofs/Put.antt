@@ -3,10 +3,10 @@
 use Prim.Native.Nat.{ℕ, ◌+◌, ◌*◌, ◌<◌}
 use native.Mathlib.Decide.{ℕ_discrete}
 use native.Mathlib.Nat.{mul-one, mul-zero}
-use mathlib.Core.Path.{◌≡◌, refl, sym, ◌∙◌, ap, subst}
+use mathlib.Core.Path.{◌≡◌, refl, sym, ◌∙◌, ap, subst, fun_ext}
 use mathlib.Core.Logic.{◌⊎◌, inl, inr}
 use borrow.Author.Tests.{eq-eqb, ne_eqb}
-use Rattle.tree.specs.Tree.{Tree, nothing, line, node}
+use Rattle.tree.specs.Tree.{Tree, nothing, line, node, present}
 use Rattle.tree.specs.Standing.{UnderEdge, Stands}
 use Rattle.tree.specs.Opening.{put, one_edge}
 use Rattle.tree.specs.Shape.{Alone}
@@ -26,6 +26,30 @@ put_each P i t f here others e =
     elim (ℕ_discrete e i) [
       | yes same ↦ subst P (sym (put_same i e t f same)) here
       | no other ↦ subst P (sym (put_other i e t f other)) (others e other)
+    ]
+
+-- what was put under the edge before is gone
+pub put_twice : (i : ℕ) (t u : Tree) (f : ℕ → Tree) → put i t (put i u f) ≡ put i t f
+put_twice i t u f = fun_ext λ e.
+    elim (ℕ_discrete e i) [
+      | yes same ↦ put_same i e t (put i u f) same ∙ sym (put_same i e t f same)
+      | no other ↦ put_other i e t (put i u f) other ∙ put_other i e u f other ∙ sym (put_other i e t f other)
+    ]
+
+-- and what is there already changes nothing
+pub put_itself : (i : ℕ) (f : ℕ → Tree) → put i (f i) f ≡ f
+put_itself i f = fun_ext λ e.
+    elim (ℕ_discrete e i) [
+      | yes same ↦ put_same i e (f i) f same ∙ ap f (sym same)
+      | no other ↦ put_other i e (f i) f other
+    ]
+
+-- the same edges are present where t is present or not like what stood there
+pub put_present : (i : ℕ) (t : Tree) (f : ℕ → Tree) → present t ≡ present (f i) → (e : ℕ) → present (put i t f e) ≡ present (f e)
+put_present i t f like e =
+    elim (ℕ_discrete e i) [
+      | yes same ↦ rw (put_same i e t f same, same) like
+      | no other ↦ ap present (put_other i e t f other)
     ]
 
 -- line K stands in t, which was put under edge i of a node of weight w

@@ -27,7 +27,7 @@ use Rattle.tree.proofs.UnderEdge.{stands_under, stands_present}
 use Rattle.tree.proofs.Proper.{Proper, nothing_open, legal_proper}
 use Rattle.tree.proofs.Standing.{open_stands, stands_open}
 use Rattle.tree.proofs.Numbering.{stands_number}
-use Rattle.tree.proofs.Closing.{proper_present_line}
+use Rattle.tree.proofs.Clearing.{proper_present_line}
 use Rattle.tree.proofs.Opening.{at_proper}
 use Rattle.tree.proofs.ChosenCandidate.{chosen_none, no_candidate_chosen_none}
 use Rattle.tree.proofs.Checks.{refused_by_5, none_strikes}

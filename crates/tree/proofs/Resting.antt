@@ -17,7 +17,7 @@ use Rattle.tree.proofs.Proper.{legal_proper}
 use Rattle.tree.proofs.Standing.{start_below_period}
 use Rattle.tree.proofs.Numbering.{stands_period}
 use Rattle.tree.proofs.Ownership.{stands_walk}
-use Rattle.tree.proofs.Closing.{proper_present_line}
+use Rattle.tree.proofs.Clearing.{proper_present_line}
 
 -- The next turn of a line
 

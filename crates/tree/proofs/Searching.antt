@@ -14,7 +14,7 @@ use Rattle.std.proofs.lemmas.Option.{none-some}
 use lib.ListN.{length, get_or, length-append, get_or-append}
 use lib.Seq.{get_or_at}
 use borrow.Author.Tests.{not-true, not-false}
-use Rattle.tree.specs.Search.{found, or_else, first, each_below, smallest, some_below, all_below}
+use Rattle.tree.specs.Search.{found, or_else, passing, first, each_below, smallest, some_below, all_below}
 
 -- what is below suc n is n or below n
 pub last_or_below : (i n : ℕ) → i < suc n → (i ≡ n) ⊎ (i < n)
@@ -87,6 +87,17 @@ if_some false i a h = absurd (none-some a h)
 if_none : (b : Bool) (i : ℕ) → (if b then Some i else None) ≡ None → b ≡ false
 if_none true i h = absurd (some-none i h)
 if_none false i h = refl
+
+pub passing_some : {A : Type 0} (test : A → Bool) (o : Option A) (a : A) → passing test o ≡ Some a → (o ≡ Some a) × (test a ≡ true)
+unfolding passing
+passing_some test None a h = absurd (none-some a h)
+passing_some test (Some x) a h =
+    let same = if_some (test x) x a h in
+    (ap Some same.1, rw same.1 at same.0)
+
+pub passing_true : {A : Type 0} (test : A → Bool) (a : A) → test a ≡ true → passing test (Some a) ≡ Some a
+unfolding passing
+passing_true test a h = rw h
 
 -- i is the smallest number below n that passes the test
 pub record Smallest (n : ℕ) (test : ℕ → Bool) (i : ℕ) : Type 0 where

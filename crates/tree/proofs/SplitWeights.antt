@@ -11,9 +11,9 @@ use Rattle.std.specs.Prelude.{Some}
 use Rattle.std.proofs.lemmas.Option.{none-some}
 use lib.Dec.{ltb}
 use borrow.Author.Tests.{ltb-true, ltb-false, lt-ltb}
-use Rattle.tree.specs.Tree.{Tree, nothing, line, node, present, product, Place, at_digits, at, way_by_digits, way, step}
+use Rattle.tree.specs.Tree.{Tree, nothing, line, node, present, product, Place, at_digits, at, way_by_digits, way, step, weight_of}
 use Rattle.tree.specs.Opening.{divisor, put, newcomer, booking, book_by_digits, class_at, book_into, chosen, opened}
-use Rattle.tree.specs.Trial.{is_split, weight_of, weight_at}
+use Rattle.tree.specs.Trial.{is_split, weight_at}
 use Rattle.tree.proofs.Put.{put_same, put_other}
 use Rattle.tree.proofs.Proper.{legal_proper}
 use Rattle.tree.proofs.Classes.{free_absent}

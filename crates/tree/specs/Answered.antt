@@ -27,6 +27,10 @@ unfoldable pub outcome_of : {A B : Type 0} → (A → B) → Result A Refusal �
 outcome_of told (Ok a) = gives (told a)
 outcome_of told (Err r) = refuses (number_of r)
 
+-- a line, as the rules name it
+abbrev pub line_number : Line → ℕ
+line_number line = line.number
+
 -- (Refusals, 1) A number is a line's, or it is above 63.
 unfoldable pub LineOrRefusal : ℕ → Result Line Refusal → Type 0
 LineOrRefusal n r =

@@ -1,4 +1,4 @@
--- The joint table: document 01's marked cases A to I, case C as document 02's Ask 6 has it, without the printing, as calls with the answers that it marks; then eleven cases of our own.
+-- The joint table: document 01's marked cases A to I, cases C and I as document 02's Asks 6 and 8 have them, without the printing, as calls with the answers that it marks; then twelve cases of our own.
 -- Each case begins at the empty plan. The one proof over the whole table is in proofs/JointTable.antt.
 -- Assumes nothing.
 use Rattle.std.specs.Prelude.{ℕ, Bool, true, false, List, [], ◌∷◌, ◌++◌, length, take, replicate}
@@ -134,7 +134,7 @@ case_I =
     ∷ opens 2 2 (booked 1)
     ∷ opens 3 3 (refused 5)
     ∷ closes 2 done
-    ∷ opens 3 3 (refused 5)
+    ∷ opens 3 3 (booked 1)
     ∷ closes 2 (refused 4)
     ∷ []
 
@@ -326,6 +326,38 @@ reasons =
     ∷ reason_at 4096 0 0 0 (refuses 2)
     ∷ []))
 
+-- ours: nodes joined on the way up. The first close leaves the node at offset 1 a node of weight 4 and one of weight 2, so that it is not joined. The two openings after it
+-- split the first of these, and give it a sibling of weight 2. The second close joins the root with the node at offset 1 and then with the three below that one, and stops there,
+-- since lines 3, 4 and 5 stand under its edges. The last one takes out a node of weight 3 too, and takes the split of the open before it back.
+unfoldable pub nodes_joined : List Step
+nodes_joined =
+    opens 0 2 (booked 0)
+    ∷ opens 1 24 (booked 1)
+    ∷ opens 2 6 (booked 3)
+    ∷ opens 3 12 (booked 5)
+    ∷ closes 2 done
+    ∷ show 1 (shows 24 1 (row 2 1 ∷ row 3 0 ∷ row 4 0 ∷ []))
+    ∷ show 3 (shows 12 5 (row 2 1 ∷ row 3 2 ∷ row 2 0 ∷ []))
+    ∷ opens 4 12 (booked 3)
+    ∷ opens 5 12 (booked 7)
+    ∷ show 1 (shows 24 1 (row 2 1 ∷ row 3 0 ∷ row 2 0 ∷ row 2 0 ∷ []))
+    ∷ closes 0 done
+    ∷ show 1 (shows 24 1 (row 12 1 ∷ row 2 0 ∷ []))
+    ∷ show 3 (shows 12 5 (row 12 5 ∷ []))
+    ∷ show 4 (shows 12 3 (row 12 3 ∷ []))
+    ∷ show 5 (shows 12 7 (row 12 7 ∷ []))
+    ∷ nodes_in_all 2
+    ∷ closes 3 done
+    ∷ closes 4 done
+    ∷ closes 5 done
+    ∷ show 1 (shows 24 1 (row 24 1 ∷ []))
+    ∷ opens 2 36 (booked 0)
+    ∷ show 1 (shows 24 1 (row 12 1 ∷ row 2 0 ∷ []))
+    ∷ show 2 (shows 36 0 (row 12 0 ∷ row 3 0 ∷ []))
+    ∷ closes 2 done
+    ∷ show 1 (shows 24 1 (row 24 1 ∷ []))
+    ∷ []
+
 unfoldable pub cases : List (List Step)
 cases =
     case_A
@@ -348,4 +380,5 @@ cases =
     ∷ rests
     ∷ sheets
     ∷ reasons
+    ∷ nodes_joined
     ∷ []

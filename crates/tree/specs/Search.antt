@@ -12,6 +12,11 @@ module _ {A : Type 0} where
   or_else (Some a) o = Some a
   or_else None o = o
 
+  -- what there is, where it passes the test
+  unfoldable pub passing : (A → Bool) → Option A → Option A
+  passing test None = None
+  passing test (Some a) = if test a then Some a else None
+
   -- what the smallest number below n has to offer, of those that offer something
   unfoldable pub first : ℕ → (ℕ → Option A) → Option A
   first zero offer = None

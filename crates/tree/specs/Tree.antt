@@ -87,6 +87,12 @@ way a t = way_by_digits a.level a.offset t
 unfoldable pub step : Place → Tree → ℕ
 step a t = product (way a t)
 
+-- the weight of a node; a line has none
+unfoldable pub weight_of : Tree → Option ℕ
+weight_of nothing = None
+weight_of (line n) = None
+weight_of (node w f) = Some w
+
 -- (Refusals, the last sentence; Ask 3, 2) The number of nodes of a tree.
 unfoldable pub nodes : Tree → ℕ
 nodes nothing = 0

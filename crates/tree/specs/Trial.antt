@@ -1,7 +1,7 @@
 -- A trial: what an open would do, and what is meant by its doing so (document 02, Ask 3).
 -- Assumes nothing.
 use Rattle.std.specs.Prelude.{ℕ, ◌+◌, ◌-◌, ◌≡◌, ◌↔◌, Bool, true, false, ltb, Option, None, Some}
-use Rattle.tree.specs.Tree.{Tree, nothing, line, node, Place, at, step, nodes}
+use Rattle.tree.specs.Tree.{Tree, nothing, line, node, Place, at, step, weight_of, nodes}
 use Rattle.tree.specs.Opening.{divisor, chosen, opened, start_given}
 use Rattle.tree.specs.Refusals.{open_refusal}
 use Rattle.tree.specs.Calls.{Answer, booked, refused, Outcome, gives, refuses, gives_unless}
@@ -39,13 +39,7 @@ trial_outcome L p t = gives_unless (open_refusal L p t) (trial L p t)
 
 -- The open made next
 
--- the weight of a node; a line has none
-unfoldable pub weight_of : Tree → Option ℕ
-weight_of nothing = None
-weight_of (line n) = None
-weight_of (node w f) = Some w
-
--- that of the node at a place, none where no node stands there
+-- the weight of the node at a place, none where no node stands there
 unfoldable pub weight_at : Place → Tree → Option ℕ
 weight_at a t = weight_of (at a t)
 

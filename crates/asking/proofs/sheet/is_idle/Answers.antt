@@ -2,7 +2,7 @@
 -- Assumes nothing.
 use mathlib.Core.Path.{sym, ◌∙◌, ap}
 use mathlib.Core.Bool.{not, not-not}
-use Rattle.asking.specs.Answers.{line_number}
+use Rattle.tree.specs.Answered.{line_number}
 use Rattle.asking.proofs.SheetFigures.{found_mapped, owned_by_walk}
 use Rattle.asking.proofs.sheet.is_idle.Goals as goal
 

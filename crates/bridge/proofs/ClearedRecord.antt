@@ -1,4 +1,4 @@
--- The record of a closed tree: the record with that line's rows cleared.
+-- The record of a tree from which a line was taken out: the record with that line's rows cleared.
 -- Assumes nothing.
 use Prim.Native.Nat.{ℕ, ◌<◌}
 use mathlib.Core.Path.{◌≡◌, sym, ◌∙◌, ap}
@@ -10,7 +10,7 @@ use Rattle.tree.specs.declared.Row.{Row}
 use Rattle.tree.specs.declared.Plan.{Plan}
 use Rattle.tree.specs.Tree.{Tree, path_of}
 use Rattle.tree.specs.Asking.{rows_11}
-use Rattle.tree.specs.Closing.{closed}
+use Rattle.tree.specs.Closing.{cleared}
 use Rattle.tree.specs.Record.{path_at, legal, tree_of, numbers, record_of}
 use Rattle.paths.specs.Rules.{set_line}
 use Rattle.paths.proofs.LegalLines.{legal_rest_unused}
@@ -18,7 +18,7 @@ use Rattle.paths.proofs.Blocks.{block}
 use Rattle.bridge.proofs.RecordBlocks.{set_line_record}
 use Rattle.bridge.proofs.BlockPaths.{block_of_path}
 use Rattle.bridge.proofs.TreeOfRecord.{tree_of_legal, tree_of_path_of}
-use Rattle.bridge.proofs.RouteClosing.{closed_path_other, closed_path_gone}
+use Rattle.bridge.proofs.RouteClearing.{cleared_path_other, cleared_path_gone}
 
 -- A legal record, block by block
 
@@ -30,15 +30,15 @@ block_of_tree plan M is_legal long below =
     legal_block plan.rows M is_legal long below
     ∙ ap (λ (rs : List Row). numbers (rows_11 rs)) (sym (tree_of_path_of plan M is_legal below))
 
--- The closed tree
+-- The tree without the line
 
-pub closed_record : (plan : Plan) (L : ℕ) → L < 64 → legal plan.rows ≡ true → length plan.rows ≡ 1408 →
-    set_line plan.rows L [] ≡ (record_of (closed L (tree_of plan))).rows
+pub cleared_record : (plan : Plan) (L : ℕ) → L < 64 → legal plan.rows ≡ true → length plan.rows ≡ 1408 →
+    set_line plan.rows L [] ≡ (record_of (cleared L (tree_of plan))).rows
 unfolding path_of
-closed_record plan L below is_legal long =
-    set_line_record plan.rows L [] (closed L t) below long (ap (λ (o : Option (List Row)). unwrap_or o []) (sym (closed_path_gone L t))) λ M M_below other.
+cleared_record plan L below is_legal long =
+    set_line_record plan.rows L [] (cleared L t) below long (ap (λ (o : Option (List Row)). unwrap_or o []) (sym (cleared_path_gone L t))) λ M M_below other.
     block_of_tree plan M is_legal long M_below
-    ∙ ap (λ (o : Option (List Row)). numbers (rows_11 (unwrap_or o []))) (sym (closed_path_other L M t (tree_of_legal plan) other))
+    ∙ ap (λ (o : Option (List Row)). numbers (rows_11 (unwrap_or o []))) (sym (cleared_path_other L M t (tree_of_legal plan) other))
   where
     t : Tree
     t = tree_of plan

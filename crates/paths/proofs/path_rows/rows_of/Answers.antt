@@ -1,7 +1,7 @@
 use Rattle.paths.proofs.Filled.{filled_none, filled_more}
 use Rattle.paths.proofs.LegalLines.{legal_rest_unused}
-use Rattle.asking.proofs.ElevenRows.{copied_all}
-use Rattle.asking.proofs.rows_of.Goals as goal
+use Rattle.paths.proofs.ElevenRows.{copied_all}
+use Rattle.paths.proofs.path_rows.rows_of.Goals as goal
 
 pub loop-row-init : goal.loop-row-init
 loop-row-init c = filled_none _ _ _ _
