@@ -1,13 +1,18 @@
 /* Gaplinte: a plan of rounds for one recorder. The calls of the proved library, for C99 and C++.
  *
- * Answers. Each call answers one number: its value, 0 or more, or minus the number of a refusal, -1 to -12. A refusal
+ * Answers. Each call answers one number: its value, 0 or more, or minus the number of a refusal, -1 to -14. A refusal
  * stays negative where it is kept in a narrower signed type. A refused call leaves all that it was lent as found.
  *
  * The plan. The caller keeps it and lends it to the calls. For each line it has 11 rows of weight and edge: the nodes
  * above the line, from the root on. Rows that are not used are 0 and 0, and a line that is not open uses none. As
  * numbers of 16 bits, the weight of line L's row k is number 22 L + 2 k, and its edge is the next one. All 0 is the
  * empty plan: `gaplinte_plan plan = {0};` in C, `gaplinte_plan plan{};` in C++. The numbers are in the machine's byte
- * order, so a stored plan is for machines of one byte order.
+ * order, so a stored record is for machines of one byte order. An image is for all of them.
+ *
+ * Images. The image of a plan is a row of numbers in bits, each number from its highest bit on. 7 bits say how many
+ * lines are open. Then come the open lines, the lowest first, with 6 bits for the line, 4 for how many rows its path
+ * has, and 24 for each row, half of them for the weight and half for the edge. What is left of the last byte is 0. Two
+ * plans have the same image if and only if they have the same tree.
  *
  * Nodes. The node of row k of a path has level k, so that the root has level 0. Its step is the product of the weights
  * above it, 1 for the root, and its offset is the sum of the edges above it, each times the step of the node that it
@@ -16,13 +21,13 @@
  *
  * A plan that is no tree (damaged, say, or never written) is treated by each call as the empty plan: owner and the
  * walker answer idle with rest 0, show, turns and close refuse with 4, reason refuses with 10, in a sheet all rounds
- * are idle, a trial tells what an open in the empty plan would do, and an open that is not refused replaces it.
- * gaplinte_is_tree tells.
+ * are idle, a trial tells what an open in the empty plan would do, its image is that of the empty plan, and an open
+ * that is not refused replaces it. gaplinte_is_tree tells.
  *
  * Threads. The library keeps nothing between calls and has no global data, so calls on different records may run in
  * different threads. While one thread changes a record, no other may use it.
  *
- * Pointers. None is null, also where a list or a buffer has no bytes. Records and buffers lent to one call do not
+ * Pointers. None is null, also where a list, an image or a buffer has no bytes. What is lent to one call does not
  * overlap.
  *
  * Link with libgaplinte.a, which `bash bindings/build` writes to target/staticlib. */
@@ -55,6 +60,9 @@
 #define GAPLINTE_LIST_BYTES 65535
 #define GAPLINTE_LIST_ORDERS 21845
 
+/* The bytes of the longest image: a buffer of so many is never too short. */
+#define GAPLINTE_IMAGE_BYTES 2193
+
 /* The numbers of the refusals. */
 #define GAPLINTE_LINE_ABOVE_63 1
 #define GAPLINTE_PERIOD_OUT_OF_RANGE 2
@@ -63,11 +71,13 @@
 #define GAPLINTE_NO_CANDIDATE 5
 #define GAPLINTE_NO_ORDER 6
 #define GAPLINTE_LIST_LENGTH 7
-#define GAPLINTE_ANSWERS_TOO_SHORT 8
+#define GAPLINTE_BUFFER_TOO_SHORT 8
 #define GAPLINTE_WALKER_AT_END 9
 #define GAPLINTE_NO_NODE 10
 #define GAPLINTE_NO_CLASS 11
 #define GAPLINTE_NO_LINE_IN_CLASS 12
+#define GAPLINTE_IMAGE_LENGTH 13
+#define GAPLINTE_IMAGE_FIELD 14
 
 /* So that compilers warn where an answer is thrown away, and a refusal with it. */
 #if defined(__cplusplus) && __cplusplus >= 201703L
@@ -168,11 +178,14 @@ static inline const char *gaplinte_refusal_text(int64_t answer) {
         case -GAPLINTE_NO_ORDER:
             return "no order: the kind is above 1, a close has a period, or one of the last four bits is 1";
         case -GAPLINTE_LIST_LENGTH: return "the list is longer than 65535 bytes or ends inside an order";
-        case -GAPLINTE_ANSWERS_TOO_SHORT: return "the buffer has fewer than two bytes for each order";
+        case -GAPLINTE_BUFFER_TOO_SHORT: return "the buffer is too short for the answers or the image";
         case -GAPLINTE_WALKER_AT_END: return "the walker's next round or count is 2^64 - 1";
         case -GAPLINTE_NO_NODE: return "no node has this level and offset";
         case -GAPLINTE_NO_CLASS: return "the node has no such class for the period";
         case -GAPLINTE_NO_LINE_IN_CLASS: return "no line stands in the class";
+        case -GAPLINTE_IMAGE_LENGTH: return "bits of the image are missing, or bytes follow its last one";
+        case -GAPLINTE_IMAGE_FIELD:
+            return "no image: a field is out of range, a bit that fills the last byte is 1, or the tree is not legal";
         default: return "no call is refused so";
     }
 }
@@ -254,6 +267,18 @@ GAPLINTE_NODISCARD int64_t gaplinte_walk(const gaplinte_plan *plan, gaplinte_pla
  * value is 0. Refused with 7 or 8. */
 GAPLINTE_NODISCARD int64_t gaplinte_run_list(gaplinte_plan *plan, const uint8_t *orders, size_t order_bytes,
                                              uint8_t *answers, size_t answer_bytes);
+
+/* Writes the image of a plan, and leaves later bytes of the buffer alone. The value is the image's length in bytes, 1
+ * to GAPLINTE_IMAGE_BYTES. Refused with 8 where the buffer has fewer. */
+GAPLINTE_NODISCARD int64_t gaplinte_write_image(const gaplinte_plan *plan, uint8_t *buffer, size_t buffer_bytes);
+
+/* Reads an image: the plan, whatever it was, gets the image's tree. The value is 0. Refused at the first number of the
+ * image that cannot be read: with 13 where the bytes end inside it, and with 14 where it says 65 lines or more, no rows
+ * or 12 and more, or the weight 0. Where all can be read, refused with 13 if another byte comes behind them, else with
+ * 14 if what is left of the last byte is not 0, else with 14 for any of these: a line number that is not above the one
+ * before it, an edge that is not below its weight, a period above 4,095, a weight of 1 beside other rows, two weights
+ * at one place, a line at another's place or on the way to it. */
+GAPLINTE_NODISCARD int64_t gaplinte_read_image(gaplinte_plan *plan, const uint8_t *image, size_t image_bytes);
 
 /* Packs an order of a kind; a close has period 0. The value is 0. Refused with 6, 1 or 2. */
 GAPLINTE_NODISCARD int64_t gaplinte_pack(uint64_t kind, uint64_t line, uint64_t period, gaplinte_order *order);

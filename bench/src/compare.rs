@@ -1,5 +1,6 @@
-//! Both give the same answers and leave the same records and bytes, on generated calls, sheets, reasons and lists.
+//! Both give the same answers and leave the same records and bytes, on generated calls, sheets, reasons, images and lists.
 
+mod images;
 mod reasons;
 mod sheets;
 
@@ -276,6 +277,8 @@ pub fn compare_answers(folder: &Path) {
     sheets::compare_measured_sheets();
     reasons::compare_reasons();
     reasons::compare_measured_reasons();
+    images::compare_images();
+    images::compare_measured_images();
     compare_lists();
     compare_programs(folder);
 }

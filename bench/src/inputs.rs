@@ -1,7 +1,7 @@
 //! What is measured: plans and lists of orders with so many open lines.
 
 use crate::numbers::{order, Numbers};
-use crate::{plain, Record, RECORD, SEED};
+use crate::{plain, Record, IMAGE, RECORD, SEED};
 
 const PERIODS: [u16; 8] = [480, 360, 240, 720, 960, 1440, 600, 1200];
 
@@ -44,6 +44,14 @@ pub fn plan_of_powers() -> Record {
 /// Rounds that the last line of case F owns: 1,023 is its start.
 pub fn rounds_under_11_nodes(count: usize) -> Vec<u64> {
     (0..count as u64).map(|at| 1_023 + 2_048 * at).collect()
+}
+
+/// The image of a plan.
+pub fn image_of(rows: &Record) -> Vec<u8> {
+    let mut image = vec![0; IMAGE];
+    let length = plain::write_image(rows, &mut image);
+    image.truncate(length as usize);
+    image
 }
 
 /// The first rounds that are owned, or else idle.

@@ -15,6 +15,9 @@ mod trials;
 
 const RECORD: usize = 1408;
 const SHEET: usize = 65;
+
+/// The bytes of the longest image.
+const IMAGE: usize = 2_193;
 const SEED: u64 = 4;
 
 type Record = [u16; RECORD];
@@ -31,6 +34,8 @@ struct Calls {
     sheet: fn(&Record, u64, u16, &mut Sheet) -> i64,
     reason: fn(&Record, u64, u64, u64, u64) -> i64,
     run_list: fn(&mut Record, &[u8], &mut [u8]) -> i64,
+    write_image: fn(&Record, &mut [u8]) -> i64,
+    read_image: fn(&mut Record, &[u8]) -> i64,
 }
 
 const LIBRARY: Calls = Calls {
@@ -40,6 +45,8 @@ const LIBRARY: Calls = Calls {
     sheet: raw::sheet,
     reason: raw::reason,
     run_list: raw::run_list,
+    write_image: raw::write_image,
+    read_image: raw::read_image,
 };
 const PLAIN: Calls = Calls {
     open: plain::open,
@@ -48,6 +55,8 @@ const PLAIN: Calls = Calls {
     sheet: plain::sheet,
     reason: plain::reason::reason,
     run_list: plain::run_list,
+    write_image: plain::write_image,
+    read_image: plain::read_image,
 };
 
 /// Compares, then measures. The programs' files are in a folder of their own.

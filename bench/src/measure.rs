@@ -1,5 +1,7 @@
 //! The table: nanoseconds of the library and of plain Rust, which take turns, the best of many repetitions for each.
 
+mod images;
+
 use crate::inputs::{
     deep_plan_of, list_of, plan_of, plan_of_powers, rounds_under_11_nodes, rounds_where, ORDERS,
 };
@@ -143,7 +145,7 @@ struct Measured {
     task: fn(Calls, usize) -> Task,
 }
 
-const MEASURED: [Measured; 10] = [
+const MEASURED: [Measured; 14] = [
     Measured {
         name: "owner, owned round",
         lines: &LINES,
@@ -185,6 +187,34 @@ const MEASURED: [Measured; 10] = [
         calls: TOGETHER,
         repetitions: 300,
         task: reasons_deep,
+    },
+    Measured {
+        name: "image written",
+        lines: &LINES,
+        calls: TOGETHER,
+        repetitions: 300,
+        task: images::writes,
+    },
+    Measured {
+        name: "image written, deep plan",
+        lines: &DEEP_LINES,
+        calls: TOGETHER,
+        repetitions: 300,
+        task: images::writes_deep,
+    },
+    Measured {
+        name: "image read",
+        lines: &LINES,
+        calls: TOGETHER,
+        repetitions: 300,
+        task: images::reads,
+    },
+    Measured {
+        name: "image read, deep plan",
+        lines: &DEEP_LINES,
+        calls: TOGETHER,
+        repetitions: 300,
+        task: images::reads_deep,
     },
     Measured {
         name: "open with close",
@@ -262,7 +292,8 @@ pub fn profile(mut words: impl Iterator<Item = String>) {
     let mut number = || words.next().and_then(|word| word.parse().ok());
     let row: usize = number().expect(
         "a row: 0 owned round, 1 idle round, 2 owner under 11 nodes, 3 sheet, 4 reason, 5 the same in a deep plan, \
-         6 open with close, 7 the same in a deep plan, 8 the same that splits and joins, 9 list",
+         6 image written, 7 the same of a deep plan, 8 image read, 9 the same of a deep plan, 10 open with close, \
+         11 the same in a deep plan, 12 the same that splits and joins, 13 list",
     );
     let lines: usize = number().expect("a number of lines");
     let times: usize = number().expect("a number of tasks");

@@ -95,6 +95,32 @@ impl Numbers {
             }
         }
     }
+
+    fn bytes(&mut self, count: u64) -> Vec<u8> {
+        (0..count).map(|_| self.next() as u8).collect()
+    }
+
+    /// Damage to a copy of an image: bytes cut off or added, other bytes, or a bit changed, of the first bytes, of the last
+    /// one or of any.
+    pub fn damaged_image(&mut self, image: &[u8]) -> Vec<u8> {
+        let length = image.len() as u64;
+        let (kind, count) = (self.below(8), self.below(40));
+        match kind {
+            0 => image[..self.below(length) as usize].to_vec(),
+            1 => [image, &self.bytes(1 + count / 10)].concat(),
+            2 => self.bytes(count),
+            3 => with_bit_changed(image, self.below(8 * length.min(3))),
+            4 => with_bit_changed(image, 8 * (length - 1) + self.below(8)),
+            _ => with_bit_changed(image, self.below(8 * length)),
+        }
+    }
+}
+
+/// The bits are counted from the most significant one of the first byte on.
+fn with_bit_changed(bytes: &[u8], bit: u64) -> Vec<u8> {
+    let mut changed = bytes.to_vec();
+    changed[bit as usize / 8] ^= 128 >> (bit % 8);
+    changed
 }
 
 /// The three bytes of an order.

@@ -2,6 +2,7 @@
 
 pub mod book;
 mod change;
+mod image;
 mod joining;
 mod list;
 mod owner;
@@ -13,6 +14,7 @@ mod sheet;
 use crate::Record;
 
 pub use change::{close, open};
+pub use image::{read_image, write_image};
 pub use list::run_list;
 pub use owner::owner;
 pub use sheet::sheet;
@@ -29,7 +31,10 @@ pub type Path = [Row; ROWS];
 /// A plan record: the path of each line.
 pub type Plan = [Path; LINES];
 
-pub const EMPTY: Plan = [[[0; 2]; ROWS]; LINES];
+/// The path of a closed line.
+pub const CLOSED: Path = [[0; 2]; ROWS];
+
+pub const EMPTY: Plan = [CLOSED; LINES];
 
 /// The answer of a call that is refused.
 pub const fn refused(number: i64) -> i64 {

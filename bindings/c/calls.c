@@ -6,7 +6,7 @@
 
 #include "gaplinte.h"
 
-#define REFUSALS 12
+#define REFUSALS 14
 
 static gaplinte_plan plan;
 static int differences;
@@ -592,6 +592,252 @@ static void each_class_of_each_node(void) {
     EXPECT_EXPLAINED();
 }
 
+/* A buffer for an image: longer than any is. */
+#define ROOM (GAPLINTE_IMAGE_BYTES + 7)
+
+/* The plan has this image. It is written where the buffer has so many bytes or more, and the bytes behind it are left
+ * alone. Of a shorter buffer no byte is written. The plan stays as found. */
+static void expect_image(int at, const uint8_t *image, size_t length) {
+    const gaplinte_plan found = plan;
+    const size_t shorter[] = {0, length / 2, length - 1}, rooms[] = {length, length + 1, ROOM};
+    uint8_t lent[ROOM], buffer[ROOM];
+    memset(lent, 0xee, sizeof lent);
+    for (size_t which = 0; which < sizeof shorter / sizeof *shorter; which++) {
+        memcpy(buffer, lent, sizeof lent);
+        expect(at, gaplinte_write_image(&plan, buffer, shorter[which]), -GAPLINTE_BUFFER_TOO_SHORT);
+        expect(at, memcmp(buffer, lent, sizeof lent), 0);
+    }
+    for (size_t which = 0; which < sizeof rooms / sizeof *rooms; which++) {
+        memcpy(buffer, lent, sizeof lent);
+        expect(at, gaplinte_write_image(&plan, buffer, rooms[which]), (int64_t)length);
+        expect(at, memcmp(buffer, image, length), 0);
+        expect(at, memcmp(buffer + length, lent + length, sizeof lent - length), 0);
+    }
+    expect(at, memcmp(&plan, &found, sizeof found), 0);
+}
+
+/* Bytes that are no image leave the plan as found. */
+static void expect_not_read(int at, const uint8_t *bytes, size_t length, int refusal) {
+    const gaplinte_plan found = plan;
+    expect(at, gaplinte_read_image(&plan, bytes, length), -refusal);
+    expect(at, memcmp(&plan, &found, sizeof found), 0);
+}
+
+/* The plan has the image that it read. Cut short, or with a byte more, it is refused. */
+static void expect_read(int at, const uint8_t *image, size_t length) {
+    uint8_t longer[ROOM];
+    memcpy(longer, image, length);
+    longer[length] = 0;
+    for (size_t shorter = 0; shorter < length; shorter++)
+        expect_not_read(at, image, shorter, GAPLINTE_IMAGE_LENGTH);
+    expect_not_read(at, longer, length + 1, GAPLINTE_IMAGE_LENGTH);
+    expect(at, gaplinte_read_image(&plan, image, length), 0);
+    expect(at, gaplinte_is_tree(&plan), 1);
+    expect_image(at, image, length);
+}
+
+#define EXPECT_IMAGE(image) expect_image(__LINE__, image, sizeof image)
+#define EXPECT_READ(image) expect_read(__LINE__, image, sizeof image)
+#define EXPECT_NOT_READ(bytes, length, refusal) expect_not_read(__LINE__, bytes, length, refusal)
+
+static const uint8_t no_lines[] = {0x00};
+
+/* Marked case A. The paths have 2, 2, 3 and 3 rows: 7 + 4 * 10 + 10 * 24 bits are 287, and one more fills 36 bytes. */
+static const uint8_t case_a[] = {0x08, 0x09, 0x00, 0x10, 0x00, 0x00, 0x10, 0x00, 0x04, 0x40, 0x04, 0x00,
+                                 0x20, 0x06, 0x00, 0x01, 0x98, 0x01, 0x00, 0x00, 0x01, 0x00, 0x08, 0x01,
+                                 0x00, 0x00, 0x86, 0x00, 0x40, 0x02, 0x00, 0x60, 0x02, 0x00, 0x40, 0x00};
+
+/* Each image is read where a plan has other lines, or none. */
+static void images(void) {
+    gaplinte_plan booked;
+    memset(&plan, 0, sizeof plan);
+    EXPECT_IMAGE(no_lines);
+    EXPECT(gaplinte_open(&plan, 1, 4), 0);
+    EXPECT(gaplinte_open(&plan, 2, 6), 1);
+    EXPECT(gaplinte_open(&plan, 3, 8), 2);
+    EXPECT(gaplinte_open(&plan, 4, 12), 3);
+    EXPECT_IMAGE(case_a);
+    booked = plan;
+    EXPECT_READ(case_a);
+    EXPECT_SAME(plan, booked);
+    EXPECT_READ(no_lines);
+    EXPECT(gaplinte_open(&plan, 63, 7), 0);
+    EXPECT_READ(case_a);
+    EXPECT_SAME(plan, booked);
+}
+
+/* The plan that was read is booked further as the one that was written would be. */
+static void bookings_go_on(void) {
+    EXPECT(gaplinte_open(&plan, 4, 12), -GAPLINTE_LINE_OPEN);
+    EXPECT(gaplinte_open(&plan, 5, 2), -GAPLINTE_NO_CANDIDATE);
+    EXPECT(gaplinte_open(&plan, 5, 24), 5);
+    EXPECT(gaplinte_close(&plan, 5), 0);
+    EXPECT_IMAGE(case_a);
+    EXPECT(gaplinte_owner(&plan, 7), 2);
+    EXPECT(gaplinte_owner(&plan, 9), GAPLINTE_IDLE_FROM + 1);
+    EXPECT(gaplinte_turns(&plan, 4, 0, 100), 9);
+    for (unsigned line = 1; line <= 4; line++) EXPECT(gaplinte_close(&plan, line), 0);
+    EXPECT_IMAGE(no_lines);
+    EXPECT_READ(case_a);
+}
+
+/* A field of an image: its width in bits, and its number. */
+typedef struct field {
+    unsigned width;
+    unsigned number;
+} field;
+
+#define COUNT(lines) {7, lines}
+#define LINE(line, rows) {6, line}, {4, rows}
+#define ROW(weight, edge) {12, weight}, {12, edge}
+
+/* Fields one behind the other, each from its highest bit on, in bytes that are all 0. Gives how many bytes they are. */
+static size_t put_fields(uint8_t *bytes, const field *fields, size_t count) {
+    size_t place = 0;
+    for (size_t which = 0; which < count; which++) {
+        for (unsigned bit = fields[which].width; bit-- > 0; place++)
+            if (fields[which].number >> bit & 1) bytes[place / 8] |= (uint8_t)(0x80 >> place % 8);
+    }
+    return (place + 7) / 8;
+}
+
+/* What reading these fields answers. The plan is as found, or has them as its image. */
+static void expect_fields(int at, int64_t expected, const field *fields, size_t count) {
+    uint8_t bytes[ROOM] = {0};
+    size_t length = put_fields(bytes, fields, count);
+    if (expected < 0)
+        expect_not_read(at, bytes, length, (int)-expected);
+    else
+        expect_read(at, bytes, length);
+}
+
+#define EXPECT_FIELDS(expected, ...) \
+    do { \
+        const field fields[] = {__VA_ARGS__}; \
+        expect_fields(__LINE__, expected, fields, sizeof fields / sizeof *fields); \
+    } while (0)
+
+/* The same plan. That a field is cut off comes before its range, and a field out of range before a later one that is
+ * cut off. */
+static void images_refused_field_by_field(void) {
+    const uint8_t most_lines[] = {0x80}, one_line_more[] = {0x82};
+    EXPECT_NOT_READ(no_lines, 0, GAPLINTE_IMAGE_LENGTH);
+    EXPECT_NOT_READ(most_lines, 1, GAPLINTE_IMAGE_LENGTH);
+    EXPECT_NOT_READ(one_line_more, 1, GAPLINTE_IMAGE_FIELD);
+    EXPECT_FIELDS(-GAPLINTE_IMAGE_FIELD, COUNT(127));
+    EXPECT_FIELDS(-GAPLINTE_IMAGE_LENGTH, COUNT(1));
+    EXPECT_FIELDS(-GAPLINTE_IMAGE_FIELD, COUNT(1), LINE(5, 0));
+    EXPECT_FIELDS(-GAPLINTE_IMAGE_LENGTH, COUNT(1), LINE(5, 11));
+    EXPECT_FIELDS(-GAPLINTE_IMAGE_FIELD, COUNT(1), LINE(5, 12));
+    EXPECT_FIELDS(-GAPLINTE_IMAGE_FIELD, COUNT(1), LINE(5, 2), {12, 0});
+    EXPECT_FIELDS(-GAPLINTE_IMAGE_FIELD, COUNT(1), LINE(5, 1), ROW(0, 0));
+    EXPECT_FIELDS(-GAPLINTE_IMAGE_FIELD, COUNT(1), LINE(5, 2), ROW(2, 1), ROW(0, 0));
+    EXPECT_FIELDS(-GAPLINTE_IMAGE_LENGTH, COUNT(1), LINE(5, 2), ROW(2, 1));
+    EXPECT_FIELDS(-GAPLINTE_IMAGE_LENGTH, COUNT(2), LINE(5, 1), ROW(2, 2));
+}
+
+/* The same plan. Bytes behind the last one come before a 1 behind the last field, and that comes before an illegal
+ * tree. Behind the fields of case A one bit is left, and seven behind those of a line under one node. */
+static void images_refused_for_their_end(void) {
+    const uint8_t bit_set[] = {0x01}, bit_and_byte[] = {0x01, 0x00};
+    const uint8_t byte_more[] = {0x00, 0x00}, last_bit_set[] = {0x00, 0x01};
+    uint8_t bytes[sizeof case_a];
+    memcpy(bytes, case_a, sizeof bytes);
+    bytes[sizeof bytes - 1] |= 1;
+    EXPECT_NOT_READ(bit_set, 1, GAPLINTE_IMAGE_FIELD);
+    EXPECT_NOT_READ(bit_and_byte, 2, GAPLINTE_IMAGE_LENGTH);
+    EXPECT_NOT_READ(byte_more, 2, GAPLINTE_IMAGE_LENGTH);
+    EXPECT_NOT_READ(last_bit_set, 2, GAPLINTE_IMAGE_LENGTH);
+    EXPECT_NOT_READ(bytes, sizeof bytes, GAPLINTE_IMAGE_FIELD);
+    EXPECT_NOT_READ(bytes, sizeof bytes - 1, GAPLINTE_IMAGE_LENGTH);
+    EXPECT_FIELDS(-GAPLINTE_IMAGE_LENGTH, COUNT(1), LINE(5, 1), ROW(2, 1), {7, 1}, {8, 0});
+    for (unsigned bit = 0; bit < 7; bit++)
+        EXPECT_FIELDS(-GAPLINTE_IMAGE_FIELD, COUNT(1), LINE(5, 1), ROW(2, 1), {7, 1u << bit});
+    EXPECT_FIELDS(-GAPLINTE_IMAGE_LENGTH, COUNT(1), LINE(5, 1), ROW(2, 2), {7, 0}, {8, 0});
+}
+
+/* The same plan. Each field is in range, and nothing follows the last one. */
+static void images_of_no_legal_tree(void) {
+    EXPECT_FIELDS(-GAPLINTE_IMAGE_FIELD, COUNT(1), LINE(5, 1), ROW(2, 2));
+    EXPECT_FIELDS(-GAPLINTE_IMAGE_FIELD, COUNT(1), LINE(5, 1), ROW(4095, 4095));
+    EXPECT_FIELDS(-GAPLINTE_IMAGE_FIELD, COUNT(1), LINE(5, 2), ROW(2, 0), ROW(2048, 0));
+    EXPECT_FIELDS(-GAPLINTE_IMAGE_FIELD, COUNT(1), LINE(5, 1), ROW(1, 1));
+    EXPECT_FIELDS(-GAPLINTE_IMAGE_FIELD, COUNT(1), LINE(5, 2), ROW(1, 0), ROW(2, 0));
+    EXPECT_FIELDS(-GAPLINTE_IMAGE_FIELD, COUNT(1), LINE(5, 2), ROW(2, 0), ROW(1, 0));
+    EXPECT_FIELDS(-GAPLINTE_IMAGE_FIELD, COUNT(2), LINE(5, 1), ROW(1, 0), LINE(6, 1), ROW(1, 0));
+    /* line numbers that do not rise */
+    EXPECT_FIELDS(-GAPLINTE_IMAGE_FIELD, COUNT(2), LINE(6, 1), ROW(2, 0), LINE(5, 1), ROW(2, 1));
+    EXPECT_FIELDS(-GAPLINTE_IMAGE_FIELD, COUNT(2), LINE(5, 1), ROW(2, 0), LINE(5, 1), ROW(2, 1));
+    EXPECT_FIELDS(-GAPLINTE_IMAGE_FIELD, COUNT(2), LINE(5, 1), ROW(2, 0), LINE(5, 1), ROW(2, 0));
+    /* a line on another's way, or at its place */
+    EXPECT_FIELDS(-GAPLINTE_IMAGE_FIELD, COUNT(2), LINE(5, 1), ROW(2, 0), LINE(6, 2), ROW(2, 0), ROW(2, 1));
+    EXPECT_FIELDS(-GAPLINTE_IMAGE_FIELD, COUNT(2), LINE(5, 2), ROW(2, 0), ROW(2, 1), LINE(6, 1), ROW(2, 0));
+    EXPECT_FIELDS(-GAPLINTE_IMAGE_FIELD, COUNT(2), LINE(5, 1), ROW(2, 0), LINE(6, 1), ROW(2, 0));
+    /* two weights at one place */
+    EXPECT_FIELDS(-GAPLINTE_IMAGE_FIELD, COUNT(2), LINE(5, 1), ROW(2, 0), LINE(6, 1), ROW(3, 1));
+    EXPECT_FIELDS(-GAPLINTE_IMAGE_FIELD, COUNT(2), LINE(5, 2), ROW(2, 0), ROW(2, 0), LINE(6, 2), ROW(2, 0), ROW(3, 1));
+}
+
+/* In one of them both edges of the root lead to nodes of one weight, which are joined no sooner than a line closes. */
+static void images_of_legal_trees(void) {
+    EXPECT_FIELDS(0, COUNT(1), LINE(63, 1), ROW(1, 0));
+    EXPECT_FIELDS(0, COUNT(1), LINE(0, 1), ROW(4095, 4094));
+    EXPECT_FIELDS(0, COUNT(1), LINE(5, 2), ROW(3, 2), ROW(1365, 1364));
+    EXPECT_FIELDS(0, COUNT(2), LINE(5, 2), ROW(2, 0), ROW(2, 1), LINE(6, 2), ROW(2, 1), ROW(2, 0));
+    EXPECT_FIELDS(0, COUNT(2), LINE(5, 1), ROW(2, 1), LINE(6, 2), ROW(2, 0), ROW(3, 2));
+    /* Line 5 has period 6 and start 5. */
+    EXPECT_FIELDS(0, COUNT(1), LINE(5, 2), ROW(2, 1), ROW(3, 2));
+    EXPECT(gaplinte_open(&plan, 7, 2), 0);
+    EXPECT(gaplinte_owner(&plan, 11), 5);
+    EXPECT(gaplinte_owner(&plan, 12), 7);
+}
+
+/* The fields of the longest image: a number of lines, and for each a number, a length and 11 rows. */
+#define MOST_FIELDS (1 + GAPLINTE_LINES * (2 + 2 * GAPLINTE_ROWS))
+
+/* One more field. */
+static void add(field *fields, size_t *count, unsigned width, unsigned number) {
+    fields[*count].width = width;
+    fields[*count].number = number;
+    *count += 1;
+}
+
+/* 64 lines, each under 11 nodes of weight 2: its edges are the bits of its number, the least first, over and over. The
+ * image is made of their fields. */
+static void longest_image(void) {
+    field fields[MOST_FIELDS] = {COUNT(GAPLINTE_LINES)};
+    size_t count = 1;
+    uint8_t image[GAPLINTE_IMAGE_BYTES] = {0};
+    gaplinte_plan deep;
+    for (unsigned line = 0; line < GAPLINTE_LINES; line++) {
+        add(fields, &count, 6, line);
+        add(fields, &count, 4, GAPLINTE_ROWS);
+        for (unsigned level = 0; level < GAPLINTE_ROWS; level++) {
+            const unsigned edge = line >> level % 6 & 1;
+            add(fields, &count, 12, 2);
+            add(fields, &count, 12, edge);
+            plan.paths[line][level].weight = 2;
+            plan.paths[line][level].edge = (uint16_t)edge;
+        }
+    }
+    deep = plan;
+    EXPECT((int64_t)put_fields(image, fields, count), GAPLINTE_IMAGE_BYTES);
+    EXPECT(gaplinte_is_tree(&plan), 1);
+    EXPECT_IMAGE(image);
+    EXPECT_READ(image);
+    EXPECT_SAME(plan, deep);
+}
+
+static void images_written_and_read(void) {
+    images();
+    bookings_go_on();
+    images_refused_field_by_field();
+    images_refused_for_their_end();
+    images_of_no_legal_tree();
+    images_of_legal_trees();
+    longest_image();
+}
+
 /* Marked case I. */
 static void list(void) {
     const uint8_t orders[] = {0x01, 0x00, 0x60, 0x02, 0x00, 0x20, 0x03, 0x00, 0x30,
@@ -603,7 +849,7 @@ static void list(void) {
     memcpy(answers, lent, sizeof lent);
     plan = empty;
     EXPECT(gaplinte_run_list(&plan, orders, sizeof orders - 1, answers, sizeof answers), -GAPLINTE_LIST_LENGTH);
-    EXPECT(gaplinte_run_list(&plan, orders, sizeof orders, answers, 11), -GAPLINTE_ANSWERS_TOO_SHORT);
+    EXPECT(gaplinte_run_list(&plan, orders, sizeof orders, answers, 11), -GAPLINTE_BUFFER_TOO_SHORT);
     EXPECT(gaplinte_run_list(&plan, orders, 0, answers, 0), 0);
     EXPECT_SAME(answers, lent);
     EXPECT_SAME(plan, empty);
@@ -654,6 +900,8 @@ static void bring_about(int64_t answers[REFUSALS]) {
     answers[9] = gaplinte_reason(&plan, 4, 1, 0, 0);
     answers[10] = gaplinte_reason(&plan, 4, 0, 0, 4);
     answers[11] = gaplinte_reason(&plan, 4, 0, 0, 1);
+    answers[12] = gaplinte_read_image(&plan, orders, 0);
+    answers[13] = gaplinte_read_image(&plan, orders, 1);
 }
 
 /* A refusal is still negative, and the same one, where its answer was kept in a narrower type. */
@@ -718,9 +966,14 @@ static void damaged(void) {
     EXPECT_ALL_IDLE();
     EXPECT_REASON(0, 0, 0, 0, -GAPLINTE_PERIOD_OUT_OF_RANGE);
     EXPECT_REASON(12, 0, 0, 0, -GAPLINTE_NO_NODE);
+    EXPECT_IMAGE(no_lines);
+    EXPECT_NOT_READ(no_lines, 0, GAPLINTE_IMAGE_LENGTH);
     EXPECT_SAME(plan, found);
     EXPECT(gaplinte_open(&plan, 3, 12), 0);
     EXPECT_SAME(plan, booked);
+    plan = found;
+    EXPECT_READ(no_lines);
+    EXPECT_SAME(plan, empty);
 }
 
 int main(void) {
@@ -754,6 +1007,7 @@ int main(void) {
     reasons_in_the_smallest_plans();
     reasons_in_a_deep_plan();
     each_class_of_each_node();
+    images_written_and_read();
     list();
     order();
     narrowed();

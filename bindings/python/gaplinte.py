@@ -12,10 +12,10 @@ Traceback (most recent call last):
     ...
 gaplinte.Refused: refused with 3: the line is open already
 
-A refused call raises Refused, and leaves plan and walker as found. A number that does not fit raises OverflowError, so
-that none is cut: a line, a period, a round, a level, an offset and a class have 64 bits, the number of rounds that
-turns takes has 32, and that of a sheet 16. Different plans may be used in different threads; while one thread changes
-a plan, no other may use it.
+A refused call raises Refused, and leaves plan, walker and buffer as found. A number that does not fit raises
+OverflowError, so that none is cut: a line, a period, a round, a level, an offset and a class have 64 bits, the number
+of rounds that turns takes has 32, and that of a sheet 16. Different plans may be used in different threads; while one
+thread changes a plan, no other may use it.
 
 The shared library is the file that the environment variable GAPLINTE_LIBRARY names, or else
 target/staticlib/libgaplinte.so of the repository. In the repository it is made by
@@ -42,6 +42,7 @@ _ROWS = 11
 _IDLE_FROM = 64
 _STEP_DOES_NOT_DIVIDE = 64
 _ORDER_BYTES = 3
+_IMAGE_BYTES = 2193
 
 # In the words of include/gaplinte.h.
 _TEXTS = {
@@ -52,16 +53,18 @@ _TEXTS = {
     5: "no node of the plan is a candidate for the period",
     6: "no order: the kind is above 1, a close has a period, or one of the last four bits is 1",
     7: "the list is longer than 65535 bytes or ends inside an order",
-    8: "the buffer has fewer than two bytes for each order",
+    8: "the buffer is too short for the answers or the image",
     9: "the walker's next round or count is 2^64 - 1",
     10: "no node has this level and offset",
     11: "the node has no such class for the period",
     12: "no line stands in the class",
+    13: "bits of the image are missing, or bytes follow its last one",
+    14: "no image: a field is out of range, a bit that fills the last byte is 1, or the tree is not legal",
 }
 
 
 class Refused(Exception):
-    """A call was refused: with a number of documents 01 and 02, 1 to 12, and what that means."""
+    """A call was refused: with a number of documents 01 and 02, 1 to 14, and what that means."""
 
     def __init__(self, number: int):
         super().__init__(number)
@@ -208,6 +211,8 @@ def _loaded() -> ctypes.CDLL:
         "sheet": [plan, number, ctypes.c_uint16, ctypes.POINTER(_FiguresRecord)],
         "walk": [plan, ctypes.POINTER(_PlaceRecord)],
         "run_list": [plan, ctypes.c_char_p, ctypes.c_size_t, ctypes.c_char_p, ctypes.c_size_t],
+        "write_image": [plan, ctypes.c_char_p, ctypes.c_size_t],
+        "read_image": [plan, ctypes.c_char_p, ctypes.c_size_t],
         "pack": [number, number, number, order],
         "read": [order, ctypes.POINTER(_CallRecord)],
         "is_tree": [plan],
@@ -232,6 +237,12 @@ def _number(value: int, bits: int = 64) -> int:
 def _bytes(value: bytes) -> bytes:
     """The bytes of anything that has some; bytes(5), say, would be five of them."""
     return bytes(memoryview(value))
+
+
+def _lent(buffer: bytearray | memoryview) -> tuple[ctypes.Array[ctypes.c_char], int]:
+    """The bytes of a buffer, to be written to, and how many they are."""
+    length = memoryview(buffer).nbytes
+    return (ctypes.c_char * length).from_buffer(buffer), length
 
 
 def _value(answer: int) -> int:
@@ -369,6 +380,58 @@ class Plan:
             Answer(result, start if (result, kind) == (0, KIND_OPEN) else None)
             for kind, (result, start) in zip(kinds, results)
         ]
+
+    @classmethod
+    def from_image(cls, image: bytes) -> Plan:
+        """The plan with an image's tree. Refused as read_image is."""
+        plan = cls()
+        plan.read_image(image)
+        return plan
+
+    def to_image(self) -> bytes:
+        """The image of the plan: its paths as bits, to be read on any machine.
+
+        7 bits say how many lines are open. Then come the open lines, the lowest first, with 6 bits for the line, 4 for
+        how many rows its path has, and 24 for each row, half of them for the weight and half for the edge. Each number
+        begins with its highest bit, and what is left of the last byte is 0. Two plans have the same image if and only
+        if they have the same tree.
+
+        >>> plan = Plan()
+        >>> plan.open(5, 6)
+        0
+        >>> image = plan.to_image()
+        >>> image.hex(" ")
+        '02 28 80 30 00 00'
+        >>> Plan.from_image(image) == plan
+        True
+        >>> Plan.from_image(image[:5])
+        Traceback (most recent call last):
+            ...
+        gaplinte.Refused: refused with 13: bits of the image are missing, or bytes follow its last one
+        """
+        image = bytearray(_IMAGE_BYTES)
+        length = self.write_image(image)
+        return bytes(image[:length])
+
+    def write_image(self, buffer: bytearray | memoryview) -> int:
+        """Writes the image into anything that has bytes to write to, and gives its length. Refused with 8.
+
+        Later bytes of the buffer are left alone. 2,193 bytes are enough for every plan.
+        """
+        return _value(_library.gaplinte_write_image(self._record, *_lent(buffer)))
+
+    def read_image(self, image: bytes) -> None:
+        """Reads an image: the plan, whatever it was, gets the image's tree.
+
+        Refused at the first number of the image that cannot be read: with 13 where the bytes end inside it, and with 14
+        where it says 65 lines or more, no rows or 12 and more, or the weight 0. Where all can be read, refused with 13
+        if another byte comes behind them, else with 14 if what is left of the last byte is not 0, else with 14 for any
+        of these: a line number that is not above the one before it, an edge that is not below its weight, a period
+        above 4,095, a weight of 1 beside other rows, two weights at one place, a line at another's place or on the way
+        to it.
+        """
+        image = _bytes(image)
+        _value(_library.gaplinte_read_image(self._record, image, len(image)))
 
     def is_tree(self) -> bool:
         """Whether the record is a tree; where it is not, each call treats the plan as the empty one."""

@@ -43,6 +43,21 @@ def load_tests(loader, tests, pattern):
     return tests
 
 
+def packed(*fields):
+    """The bytes of fields, each a width and a number, from its highest bit on; what is left of the last byte is 0."""
+    bits = "".join(f"{number:0{width}b}" for width, number in fields)
+    bits += "0" * (-len(bits) % 8)
+    return int(bits, 2).to_bytes(len(bits) // 8, "big")
+
+
+def image(*paths):
+    """The image with these paths, each a line and the rows above it, also where they are no legal tree."""
+    fields = [(7, len(paths))]
+    for line, *rows in paths:
+        fields += [(6, line), (4, len(rows)), *((12, number) for row in rows for number in row)]
+    return packed(*fields)
+
+
 class Case(unittest.TestCase):
     def refused(self, number, call, *arguments):
         with self.assertRaises(Refused) as caught:
@@ -151,17 +166,21 @@ class Refusals(Case):
         self.refused(6, gaplinte.read, b"\x80\0\0")
         self.refused(7, plan.run_list, b"\0")
         self.refused(7, plan.run_list, bytes(65538))
+        self.refused(8, plan.write_image, bytearray(5))
         self.refused(9, Walker(LAST, 0).walk, plan)
         self.refused(10, plan.reason, 4, 1, 0, 0)
         self.refused(11, plan.reason, 4, 0, 0, 4)
         self.refused(12, plan.reason, 4, 0, 0, 1)
+        for call in (plan.read_image, Plan.from_image):
+            self.refused(13, call, b"")
+            self.refused(14, call, b"\1")
         self.assertEqual(plan, before)
 
     def test_texts_are_those_of_the_header(self):
         header = (REPOSITORY / "include/gaplinte.h").read_text()
         texts = re.findall(r'return "(.*)";', header)
         self.assertEqual(texts[0], "not refused")
-        self.assertEqual([Refused(number).text for number in range(1, 13)], texts[1:13])
+        self.assertEqual([Refused(number).text for number in range(1, 15)], texts[1:15])
         self.assertEqual(len(set(texts)), len(texts))
         self.assertEqual(str(Refused(4)), "refused with 4: the line is not open")
 
@@ -262,9 +281,14 @@ class Records(Case):
         self.refused(10, plan.reason, 12, 0, 0, 0)
         self.assertEqual([plan.sheet(LAST, rounds).idle for rounds in (0, 7, MOST)], [0, 7, MOST])
         self.assertEqual(plan.sheet(0, 7), ((0,) * 64, 7))
+        self.assertEqual(plan.to_image(), b"\0")
+        self.refused(13, plan.read_image, b"")
         self.assertEqual(bytes(plan), numbers.tobytes())
         self.assertEqual(plan.open(3, 12), 0)
         self.assertEqual(plan, booked)
+        plan = Plan.from_bytes(numbers)
+        plan.read_image(b"\0")
+        self.assertEqual(plan, Plan())
 
 
 class Trials(Case):
@@ -675,6 +699,184 @@ class Lists(Case):
         answers = plan.run_list(gaplinte.pack(KIND_OPEN, 1, 8) * 21845)
         self.assertEqual(answers, [(0, 0)] + [(3, None)] * 21844)
         self.assertRaises(TypeError, plan.run_list, 3)
+
+
+class Images(Case):
+    # The paths have 2, 2, 3 and 3 rows: 7 + 4 * 10 + 10 * 24 bits are 287, and one more fills 36 bytes.
+    CASE_A = bytes.fromhex(
+        "08 09 00 10 00 00 10 00 04 40 04 00 20 06 00 01 98 01"
+        "00 00 01 00 08 01 00 00 86 00 40 02 00 60 02 00 40 00"
+    )
+
+    def case_a(self):
+        return self.opened("4@0", "6@1", "8@2", "12@3")
+
+    def not_read(self, number, image):
+        """Bytes that are no image, to a plan with lines, which stays as found, and to a new one."""
+        plan = self.case_a()
+        self.refused(number, plan.read_image, image)
+        self.assertEqual(plan, self.case_a())
+        self.refused(number, Plan.from_image, image)
+
+    def test_there_and_back(self):
+        paths = (1, (2, 0), (2, 0)), (2, (2, 1), (3, 0)), (3, (2, 0), (2, 1), (2, 0)), (4, (2, 1), (3, 1), (2, 0))
+        self.assertEqual(image(*paths), self.CASE_A)
+        powers = [f"{2**power}@{2**(power - 1) - 1}" for power in range(1, 12)]
+        deep = [(power, *[(2, 1)] * (power - 1), (2, 0)) for power in range(1, 12)]
+        for plan, written in (
+            (Plan(), b"\0"),
+            (self.case_a(), self.CASE_A),
+            (self.opened("1@0"), image((1, (1, 0)))),
+            (self.opened("6@0", "12@1", "12@2"), image((1, (6, 0)), (2, (6, 1), (2, 0)), (3, (6, 2), (2, 0)))),
+            (self.opened(*powers), image(*deep)),
+        ):
+            self.assertEqual(plan.to_image(), written)
+            for lent in (written, bytearray(written), memoryview(written)):
+                self.assertEqual(Plan.from_image(lent), plan)
+            other = self.opened("7@0", "7@1")
+            self.assertIsNone(other.read_image(written))
+            self.assertEqual(other, plan)
+
+    def test_bookings_go_on(self):
+        plan = Plan.from_image(self.CASE_A)
+        self.refused(3, plan.open, 4, 12)
+        self.refused(5, plan.open, 5, 2)
+        # The node with offset 1 and step 2 has its edge 2 free.
+        self.assertEqual(plan.open(5, 24), 5)
+        self.assertEqual(plan.owner(29), (5, None))
+        plan.close(5)
+        self.assertEqual(plan.to_image(), self.CASE_A)
+        # The root is joined.
+        plan.close(4)
+        plan.close(2)
+        self.assertEqual(plan.to_image(), image((1, (4, 0)), (3, (4, 2), (2, 0))))
+
+    def test_lent_buffers(self):
+        for plan, written in (Plan(), b"\0"), (self.case_a(), self.CASE_A):
+            length = len(written)
+            for room in range(length):
+                buffer = bytearray(b"\xee" * room)
+                self.refused(8, plan.write_image, buffer)
+                self.assertEqual(buffer, b"\xee" * room)
+            for more in (0, 1, 9, 70000):
+                buffer = bytearray(b"\xee" * (length + more))
+                self.assertEqual(plan.write_image(buffer), length)
+                self.assertEqual(buffer, written + b"\xee" * more)
+
+    def test_what_can_be_lent(self):
+        plan = self.case_a()
+        buffer = bytearray(40)
+        self.assertEqual(plan.write_image(memoryview(buffer)[2:38]), 36)
+        self.assertEqual(buffer, b"\0\0" + self.CASE_A + b"\0\0")
+        numbers = array.array("H", [0] * 18)
+        self.assertEqual(plan.write_image(numbers), 36)
+        self.assertEqual(numbers.tobytes(), self.CASE_A)
+        for wrong in (bytes(40), memoryview(bytes(40)), memoryview(bytearray(80))[::2], 40, "", None):
+            self.assertRaises(TypeError, plan.write_image, wrong)
+        for wrong in (1, "\0", None):
+            self.assertRaises(TypeError, plan.read_image, wrong)
+            self.assertRaises(TypeError, Plan.from_image, wrong)
+        self.assertEqual(plan, self.case_a())
+
+    def test_a_buffer_is_given_back(self):
+        buffer = bytearray()
+        try:
+            self.case_a().write_image(buffer)
+        except Refused as refused:
+            self.assertEqual(refused.number, 8)
+            buffer.extend(bytes(36))
+        self.assertEqual(self.case_a().write_image(buffer), 36)
+        buffer.clear()
+
+    def test_fields_cut_off(self):
+        for length in range(36):
+            self.not_read(13, self.CASE_A[:length])
+        # 64 lines; a bit of the line; three bits of a length of 14 or more, and seven bits of a weight
+        for written in (b"\x80", b"\x03", b"\x02\x07", b"\x02\x00\x80"):
+            self.not_read(13, written)
+
+    def test_fields_out_of_range(self):
+        path = (7, 3), (6, 5)
+        row = (12, 2), (12, 1)
+        for fields in (
+            *([(7, count)] for count in (65, 66, 127)),
+            *([*path, (4, length)] for length in (0, 12, 13, 14, 15)),
+            [*path, (4, 1), (12, 0)],
+            [*path, (4, 11), *row * 10, (12, 0)],
+            [*path, (4, 1), *row, (6, 5), (4, 0)],
+        ):
+            for more in (b"", b"\0" * 40, b"\xff" * 40):
+                self.not_read(14, packed(*fields) + more)
+
+    def test_behind_the_last_field(self):
+        illegal = image((5, (2, 2)))
+        for written in (b"\0", b"\1", self.CASE_A, illegal):
+            for more in (b"\0", b"\1", b"\xff", written):
+                self.not_read(13, written + more)
+        self.not_read(14, b"\1")
+        self.not_read(14, self.CASE_A[:-1] + b"\1")
+        # Seven bits are left behind the last field.
+        legal = image((5, (2, 1)))
+        for bit in range(7):
+            self.not_read(14, legal[:-1] + bytes([legal[-1] | 1 << bit]))
+
+    def test_illegal_trees(self):
+        for paths in (
+            # an edge that is not below its weight
+            [(5, (2, 2))],
+            [(5, (4095, 4095))],
+            [(5, (2, 1), (3, 3))],
+            # a period above 4,095: 4,096, 65,536 + 5 and 2**32 + 4, and the largest of all
+            [(5, (2, 0), (2048, 0))],
+            [(5, (3121, 0), (21, 0))],
+            [(5, (2642, 0), (2501, 0), (650, 0))],
+            [(5, *[(4095, 0)] * 11)],
+            # a weight of 1 that is not alone, or not above edge 0
+            [(5, (1, 1))],
+            [(5, (1, 0), (2, 0))],
+            [(5, (2, 0), (1, 0))],
+            [(5, (1, 0)), (6, (1, 0))],
+            # two weights at one place
+            [(5, (2, 0)), (6, (3, 1))],
+            [(5, (2, 0), (2, 0)), (6, (2, 0), (3, 1))],
+            # a line on another's way, or at its place
+            [(5, (2, 0)), (6, (2, 0), (2, 1))],
+            [(5, (2, 0), (2, 1)), (6, (2, 0))],
+            [(5, (2, 0)), (6, (2, 0))],
+            # line numbers that fall or are equal
+            [(6, (2, 0)), (5, (2, 1))],
+            [(5, (2, 0)), (5, (2, 1))],
+        ):
+            self.not_read(14, image(*paths))
+
+    def test_the_longest(self):
+        # 64 lines, each under 11 nodes of weight 2. Its edges are the bits of its number, the least first, over and
+        # over.
+        bits = [[line >> level % 6 & 1 for level in range(11)] for line in range(64)]
+        written = image(*((line, *((2, bit) for bit in bits[line])) for line in range(64)))
+        self.assertEqual(len(written), 2193)
+        plan = Plan.from_image(written)
+        self.assertTrue(plan.is_tree())
+        self.assertEqual([row.edge for row in plan.show(62).path], bits[62])
+        self.assertEqual(plan.to_image(), written)
+        self.not_read(13, written[:-1])
+        self.not_read(13, written + b"\0")
+        self.not_read(14, b"\x82" + written[1:])
+
+    def test_each_tree_has_its_image(self):
+        drawing = random.Random(2)
+        plans = [Plan() for _ in range(300)]
+        for plan in plans:
+            for _ in range(drawing.randrange(8)):
+                line, period = drawing.randrange(2), drawing.randrange(1, 5)
+                orders = gaplinte.pack(KIND_OPEN, line, period), gaplinte.pack(KIND_CLOSE, line)
+                plan.run_list(drawing.choice(orders))
+        pairs = {(plan.to_image(), bytes(plan)) for plan in plans}
+        self.assertLess(len(pairs), len(plans))
+        self.assertEqual(len({written for written, _ in pairs}), len(pairs))
+        self.assertEqual(len({record for _, record in pairs}), len(pairs))
+        for written, record in pairs:
+            self.assertEqual(bytes(Plan.from_image(written)), record)
 
 
 class Orders(Case):

@@ -2,7 +2,7 @@
 //! long the recorder rests.
 
 use crate::refusal::Refusal;
-use crate::tree::{Node, Period, Plan, Start, Under, LAST_PERIOD};
+use crate::tree::{Node, Period, Plan, Start, Under, LAST_LINE, LAST_PERIOD};
 use std::ops::Range;
 
 /// Length of a path (Asking the plan, 3).
@@ -13,6 +13,13 @@ pub const ROWS: usize = 11;
 pub struct Row {
     pub weight: u16,
     pub edge: u16,
+}
+
+/// A line and the rows in use of its path, from the root on.
+#[derive(Clone, Debug, PartialEq, Eq)]
+pub(crate) struct Path {
+    pub(crate) line: u8,
+    pub(crate) rows: Vec<Row>,
 }
 
 /// The answer of show (Asking the plan, 3).
@@ -98,6 +105,15 @@ pub fn show(plan: &Plan, line: u64) -> Result<Shown, Refusal> {
         start: start_of(&rows),
         path,
     })
+}
+
+/// The paths of the open lines, that of the lowest number first.
+pub(crate) fn paths(plan: &Plan) -> Vec<Path> {
+    let path = |line: u8| {
+        let rows = rows_to(plan.root.as_ref()?, line)?;
+        Some(Path { line, rows })
+    };
+    (0..=LAST_LINE as u8).filter_map(path).collect()
 }
 
 /// How many rounds the line owns among so many that begin with the first, as whole numbers

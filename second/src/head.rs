@@ -23,6 +23,33 @@ pub fn read(head: &[u8; HEAD_BYTES]) -> (u8, [u64; 4]) {
     (head[0], [number(1), number(9), number(17), number(25)])
 }
 
+/// What the tests of scripts share.
+#[cfg(test)]
+pub(crate) mod scripts {
+    use std::io;
+
+    /// The bytes that are written.
+    pub(crate) fn written(write: impl FnOnce(&mut Vec<u8>) -> io::Result<()>) -> Vec<u8> {
+        let mut bytes = Vec::new();
+        write(&mut bytes).unwrap();
+        bytes
+    }
+
+    /// The steps of a script, up to the first that is not whole.
+    pub(crate) fn read_back<S>(
+        script: &[u8],
+        read: impl Fn(&[u8]) -> Option<(S, &[u8])>,
+    ) -> Vec<S> {
+        let mut steps = Vec::new();
+        let mut rest = script;
+        while let Some((step, after)) = read(rest) {
+            steps.push(step);
+            rest = after;
+        }
+        steps
+    }
+}
+
 #[cfg(test)]
 mod tests {
     use super::*;

@@ -46,7 +46,7 @@ impl Node {
     }
 
     /// The weight v, where all edges lead to nodes of one equal weight (Ask 8, 3).
-    fn equal_weight_below(&self) -> Option<u16> {
+    pub(crate) fn equal_weight_below(&self) -> Option<u16> {
         let weight = |under: &Under| match under {
             Under::Node(node) => Some(node.weight),
             Under::Line(_) => None,

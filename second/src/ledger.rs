@@ -1,8 +1,11 @@
 //! Generated lists measured against a ledger kept apart from the tree. Only for tests.
 
 use crate::ask::{owner, owner_at, show, turns};
+use crate::drawn_trees::drawn_tree;
+use crate::image::{image, read};
 use crate::lists::generate;
 use crate::naive::{expected_owner, expected_sheet, expected_start, is_tree, Time};
+use crate::naive_image::{reading, Reading};
 use crate::orders::{run_order, ORDER_BYTES};
 use crate::random::Random;
 use crate::refusal::Refusal;
@@ -18,6 +21,24 @@ struct Ledger {
 impl Ledger {
     fn new() -> Ledger {
         Ledger { lines: [None; 64] }
+    }
+
+    /// That of a list which begins at a plan that was read: the lines of the image, with the
+    /// periods and starts that its own paths give (document 02, Ask 9, 6).
+    fn of_image(image: &[u8]) -> Ledger {
+        let Reading::Taken(paths) = reading(image) else {
+            panic!("{image:x?} is no image");
+        };
+        let mut ledger = Ledger::new();
+        for (line, rows) in paths {
+            let (mut period, mut start) = (1, 0);
+            for row in rows {
+                start += row.edge * period;
+                period *= row.weight;
+            }
+            ledger.lines[usize::from(line)] = Some((period, start));
+        }
+        ledger
     }
 
     /// Takes nothing from the plan (The lists of demand 3, 7 and 9 to 11).
@@ -98,10 +119,25 @@ fn assert_plan_agrees(plan: &Plan, ledger: &Ledger) {
     }
 }
 
+/// The empty plan, and the ledger of a list that begins there.
+fn empty() -> (Plan, Ledger) {
+    (Plan::empty(), Ledger::new())
+}
+
+/// Reads the image of a plan onto another one.
+fn read_back(plan: &Plan) -> (Plan, Ledger) {
+    let image = image(plan);
+    let mut plan = Plan::empty();
+    plan.open(1, 1).unwrap();
+    read(&mut plan, &image).unwrap();
+    let ledger = Ledger::of_image(&image);
+    assert_plan_agrees(&plan, &ledger);
+    (plan, ledger)
+}
+
 /// Runs one list order by order; every answer, every start and the form are checked
 /// after each order, so that no split and no joining moves a start.
-fn run_checked(list: &[u8]) -> (Plan, Ledger) {
-    let (mut plan, mut ledger) = (Plan::empty(), Ledger::new());
+fn run_checked(list: &[u8], (mut plan, mut ledger): (Plan, Ledger)) -> (Plan, Ledger) {
     for order in list.chunks_exact(ORDER_BYTES) {
         let order = [order[0], order[1], order[2]];
         let (found, expected) = (plan.clone(), ledger.expected(&plan, order));
@@ -155,26 +191,32 @@ fn assert_sheet_agrees(plan: &Plan, ledger: &Ledger, first: u64, rounds: u16) {
     assert_eq!(sheet(plan, first, rounds), expected, "{first} {rounds}");
 }
 
+/// The plan that a list leaves, against all that its ledger says.
+fn check_list(list: &[u8], first: (Plan, Ledger), random: &mut Random) {
+    let (plan, ledger) = run_checked(list, first);
+    assert_no_round_fits_two(&ledger);
+    assert_owners_agree(&plan, &ledger, 0..5_000);
+    assert_owners_agree(&plan, &ledger, (1 << 32) - 500..(1 << 32) + 500);
+    assert_owners_agree(&plan, &ledger, u64::MAX - 500..=u64::MAX);
+    let far: Vec<u64> = (0..500).map(|_| random.draw()).collect();
+    for last in [20, 1 << 32, u64::MAX, far[0]] {
+        let first = last.saturating_sub(random.below(20));
+        let rounds = random.below(1_000) as u16;
+        assert_turns_agree(&plan, &ledger, first, rounds.into());
+        assert_sheet_agrees(&plan, &ledger, first, rounds);
+    }
+    assert_rests_agree(&plan, &ledger, 0..30);
+    assert_rests_agree(&plan, &ledger, (1 << 32) - 15..(1 << 32) + 15);
+    assert_rests_agree(&plan, &ledger, u64::MAX - 30..=u64::MAX);
+    assert_rests_agree(&plan, &ledger, far[..30].iter().copied());
+    assert_owners_agree(&plan, &ledger, far.into_iter());
+}
+
 fn check_lists(shape: Shape, seed: u64, count: usize) {
     let mut random = Random::new(seed);
     for _ in 0..count {
-        let (plan, ledger) = run_checked(&generate(shape, &mut random));
-        assert_no_round_fits_two(&ledger);
-        assert_owners_agree(&plan, &ledger, 0..5_000);
-        assert_owners_agree(&plan, &ledger, (1 << 32) - 500..(1 << 32) + 500);
-        assert_owners_agree(&plan, &ledger, u64::MAX - 500..=u64::MAX);
-        let far: Vec<u64> = (0..500).map(|_| random.draw()).collect();
-        for last in [20, 1 << 32, u64::MAX, far[0]] {
-            let first = last.saturating_sub(random.below(20));
-            let rounds = random.below(1_000) as u16;
-            assert_turns_agree(&plan, &ledger, first, rounds.into());
-            assert_sheet_agrees(&plan, &ledger, first, rounds);
-        }
-        assert_rests_agree(&plan, &ledger, 0..30);
-        assert_rests_agree(&plan, &ledger, (1 << 32) - 15..(1 << 32) + 15);
-        assert_rests_agree(&plan, &ledger, u64::MAX - 30..=u64::MAX);
-        assert_rests_agree(&plan, &ledger, far[..30].iter().copied());
-        assert_owners_agree(&plan, &ledger, far.into_iter());
+        let list = generate(shape, &mut random);
+        check_list(&list, empty(), &mut random);
     }
 }
 
@@ -203,19 +245,32 @@ fn joining_lists_agree_with_the_ledger() {
     check_lists(Shape::Joining, 26, 120);
 }
 
+/// Lists that begin at a plan that was read: at what a list of the same shape left, and at a drawn
+/// tree (document 02, Ask 9, 6).
+#[test]
+fn lists_from_plans_that_were_read_agree_with_the_ledger() {
+    let mut random = Random::new(27);
+    for shape in Shape::ALL.repeat(20) {
+        let (left, _) = run_checked(&generate(shape, &mut random), empty());
+        for first in [left, drawn_tree(&mut random)] {
+            let list = generate(shape, &mut random);
+            check_list(&list, read_back(&first), &mut random);
+        }
+    }
+}
+
 /// Closes every line that is still open after a list (Closing a line, 2).
 #[test]
 fn emptied_plans_are_fresh() {
     let mut random = Random::new(25);
     for shape in Shape::ALL.repeat(50) {
-        let (mut plan, ledger) = run_checked(&generate(shape, &mut random));
-        for (line, _, _) in ledger.open() {
-            assert_eq!(plan.close(line.into()), Ok(()));
-            assert_eq!(
-                owner_at(&plan, ledger.lines[usize::from(line)].unwrap().1.into()),
-                None
-            );
+        for first in [empty(), read_back(&drawn_tree(&mut random))] {
+            let (mut plan, ledger) = run_checked(&generate(shape, &mut random), first);
+            for (line, _, start) in ledger.open() {
+                assert_eq!(plan.close(line.into()), Ok(()));
+                assert_eq!(owner_at(&plan, start.into()), None);
+            }
+            assert_eq!(plan, Plan::empty());
         }
-        assert_eq!(plan, Plan::empty());
     }
 }

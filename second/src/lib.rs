@@ -1,6 +1,6 @@
 //! A second implementation of document 01 and, of document 02, Ask 1, Ask 3, Ask 4, Ask 5,
-//! Ask 6, Ask 7 and Ask 8, written from these documents alone. It writes the outputs that the
-//! proved program is tested against.
+//! Ask 6, Ask 7, Ask 8 and Ask 9, written from these documents alone. It writes the outputs that
+//! the proved program is tested against.
 //!
 //! Comments cite document 01 as (section, sentence), counted within the section; the one
 //! word before the items of Opening a line is not counted. (Refusals, 3) is refusal 3 of
@@ -17,11 +17,16 @@ pub mod border_rests;
 pub mod border_sheets;
 pub mod border_trials;
 pub mod border_turns;
+pub mod drawn_images;
 pub mod drawn_reasons;
 pub mod drawn_sheets;
 pub mod drawn_shows;
+pub mod drawn_trees;
 pub mod drawn_trials;
 pub mod head;
+pub mod image;
+pub mod image_cases;
+pub mod image_script;
 pub mod joining;
 pub mod list_cases;
 pub mod list_script;
@@ -48,6 +53,8 @@ mod joined_plans;
 mod ledger;
 #[cfg(test)]
 mod naive;
+#[cfg(test)]
+mod naive_image;
 #[cfg(test)]
 mod naive_joining;
 #[cfg(test)]

@@ -165,7 +165,7 @@ fn print_list(held: &mut Held, list: &[u8], room: usize, out: &mut impl Write) -
     print_beyond(beyond, out)
 }
 
-fn hexadecimal(bytes: &[u8]) -> String {
+pub(crate) fn hexadecimal(bytes: &[u8]) -> String {
     bytes.iter().map(|byte| format!("{byte:02x}")).collect()
 }
 
@@ -232,39 +232,26 @@ pub(crate) fn owners(rounds: impl IntoIterator<Item = u64>) -> impl Iterator<Ite
 #[cfg(test)]
 mod tests {
     use super::*;
+    use crate::head::scripts::{read_back, written};
     use crate::list_cases::cases;
     use crate::orders::pack;
 
     fn script(steps: &[Step]) -> Vec<u8> {
-        let mut script = Vec::new();
-        write(steps, &mut script).unwrap();
-        script
+        written(|script| write(steps, script))
     }
 
     fn printed(steps: &[Step]) -> String {
-        let mut text = Vec::new();
-        print_answers(&script(steps), &mut text).unwrap();
-        String::from_utf8(text).unwrap()
-    }
-
-    fn read_back(script: &[u8]) -> Vec<Step> {
-        let mut steps = Vec::new();
-        let mut rest = script;
-        while let Some((step, after)) = Step::read(rest) {
-            steps.push(step);
-            rest = after;
-        }
-        steps
+        String::from_utf8(written(|text| print_answers(&script(steps), text))).unwrap()
     }
 
     #[test]
     fn steps_are_read_back_from_their_bytes() {
         for steps in [cases(), generated(1, 40, Shape::Sparse)] {
-            assert_eq!(read_back(&script(&steps)), steps);
+            assert_eq!(read_back(&script(&steps), Step::read), steps);
         }
         let whole = script(&[Step::Begin, Step::Give(vec![1, 2, 3])]);
         for length in HEAD_BYTES..whole.len() {
-            assert_eq!(read_back(&whole[..length]), [Step::Begin]);
+            assert_eq!(read_back(&whole[..length], Step::read), [Step::Begin]);
         }
     }
 

@@ -1,10 +1,12 @@
-//! The commands: `book`, `long-list`, `orders`, `script`, `answers`, `list-script` and
-//! `list-answers`.
+//! The commands: `book`, `long-list`, `orders`, `script`, `answers`, `list-script`, `list-answers`,
+//! `image-script` and `image-answers`.
 
 use second::long_list::MOST_ORDERS;
 use second::orders::LONGEST_LIST;
 use second::shapes::Shape;
-use second::{book, list_cases, list_script, long_list, order_counts, script};
+use second::{
+    book, image_cases, image_script, list_cases, list_script, long_list, order_counts, script,
+};
 use std::io::{self, BufWriter, Read, Write};
 use std::process::ExitCode;
 
@@ -17,6 +19,9 @@ const USAGE: &str = "usage: second book
        second list-script cases
        second list-script SEED COUNT SHAPE
        second list-answers
+       second image-script cases
+       second image-script SEED COUNT SHAPE
+       second image-answers
 SEED, COUNT and ORDERS (at most 21845) are decimal, SHAPE is sparse, full, deep, primes
 or joining";
 
@@ -25,11 +30,22 @@ enum Call {
     LongList(u64, usize, Shape),
     Orders,
     Cases,
-    Script(u64, u64, Shape),
+    Script(Drawn),
     Answers,
     ListCases,
-    ListScript(u64, u64, Shape),
+    ListScript(Drawn),
     ListAnswers,
+    ImageCases,
+    ImageScript(Drawn),
+    ImageAnswers,
+}
+
+/// SEED, COUNT and SHAPE.
+type Drawn = (u64, u64, Shape);
+
+fn drawn(seed: &str, count: &str, shape: &str) -> Option<Drawn> {
+    let (seed, count) = (seed.parse().ok()?, count.parse().ok()?);
+    Some((seed, count, Shape::named(shape)?))
 }
 
 fn call(arguments: &[String]) -> Option<Call> {
@@ -43,19 +59,14 @@ fn call(arguments: &[String]) -> Option<Call> {
         )),
         ["orders"] => Some(Call::Orders),
         ["script", "cases"] => Some(Call::Cases),
-        ["script", seed, count, shape] => Some(Call::Script(
-            seed.parse().ok()?,
-            count.parse().ok()?,
-            Shape::named(shape)?,
-        )),
+        ["script", seed, count, shape] => drawn(seed, count, shape).map(Call::Script),
         ["answers"] => Some(Call::Answers),
         ["list-script", "cases"] => Some(Call::ListCases),
-        ["list-script", seed, count, shape] => Some(Call::ListScript(
-            seed.parse().ok()?,
-            count.parse().ok()?,
-            Shape::named(shape)?,
-        )),
+        ["list-script", seed, count, shape] => drawn(seed, count, shape).map(Call::ListScript),
         ["list-answers"] => Some(Call::ListAnswers),
+        ["image-script", "cases"] => Some(Call::ImageCases),
+        ["image-script", seed, count, shape] => drawn(seed, count, shape).map(Call::ImageScript),
+        ["image-answers"] => Some(Call::ImageAnswers),
         _ => None,
     }
 }
@@ -77,15 +88,20 @@ fn run(call: Call) -> io::Result<()> {
         }
         Call::Orders => order_counts::print(&mut out)?,
         Call::Cases => script::write(&script::cases(), &mut out)?,
-        Call::Script(seed, count, shape) => {
+        Call::Script((seed, count, shape)) => {
             script::write(&script::generated(seed, count, shape), &mut out)?;
         }
         Call::Answers => script::print_answers(&input(u64::MAX)?, &mut out)?,
         Call::ListCases => list_script::write(&list_cases::cases(), &mut out)?,
-        Call::ListScript(seed, count, shape) => {
+        Call::ListScript((seed, count, shape)) => {
             list_script::write(&list_script::generated(seed, count, shape), &mut out)?;
         }
         Call::ListAnswers => list_script::print_answers(&input(u64::MAX)?, &mut out)?,
+        Call::ImageCases => image_script::write(&image_cases::cases(), &mut out)?,
+        Call::ImageScript((seed, count, shape)) => {
+            image_script::write(&image_script::generated(seed, count, shape), &mut out)?;
+        }
+        Call::ImageAnswers => image_script::print_answers(&input(u64::MAX)?, &mut out)?,
     }
     out.flush()
 }

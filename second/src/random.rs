@@ -28,11 +28,19 @@ impl Random {
     pub fn pick<T: Copy>(&mut self, items: &[T]) -> T {
         items[self.below(items.len() as u64) as usize]
     }
+
+    /// Puts the items into any sequence.
+    pub fn shuffle<T>(&mut self, items: &mut [T]) {
+        for at in (1..items.len()).rev() {
+            items.swap(at, self.below(at as u64 + 1) as usize);
+        }
+    }
 }
 
 #[cfg(test)]
 mod tests {
     use super::*;
+    use std::collections::BTreeSet;
 
     /// The published splitmix64 sequence for this seed.
     #[test]
@@ -59,5 +67,17 @@ mod tests {
         assert_eq!(seen, [true; 7]);
         let picked: Vec<u8> = (0..100).map(|_| random.pick(&[3, 5])).collect();
         assert!(picked.contains(&3) && picked.contains(&5));
+    }
+
+    #[test]
+    fn shuffle_reaches_every_sequence() {
+        let mut random = Random::new(1);
+        let mut seen = BTreeSet::new();
+        for _ in 0..1_000 {
+            let mut items = [1, 2, 3, 4];
+            random.shuffle(&mut items);
+            seen.insert(items);
+        }
+        assert_eq!(seen.len(), 24);
     }
 }

@@ -3,7 +3,8 @@
 //! Whether its numbers are a tree is decided here from document 01 alone, by putting one
 //! line after the other under the nodes that its rows name.
 
-use crate::ask::{show, Row, ROWS};
+use crate::ask::{show, Path, Row, ROWS};
+use crate::image;
 use crate::orders::{answers_length, run, ANSWER_BYTES};
 use crate::random::Random;
 use crate::refusal::Refusal;
@@ -56,19 +57,14 @@ impl Record {
 
     /// None where the numbers are no tree.
     pub fn tree(&self) -> Option<Plan> {
-        let mut root = None;
-        for (line, numbers) in (0..).zip(self.numbers.chunks_exact(LINE_NUMBERS)) {
-            let path = path_of(numbers)?;
-            if let Some((first, below)) = path.split_first() {
-                put(
-                    root.get_or_insert_with(|| node(*first)),
-                    *first,
-                    below,
-                    line,
-                )?;
-            }
-        }
-        Some(Plan { root })
+        let lines = (0..).zip(self.numbers.chunks_exact(LINE_NUMBERS));
+        let paths = lines.map(|(line, numbers)| {
+            let rows = rows_in_use(numbers)?;
+            Some(Path { line, rows })
+        });
+        let mut paths: Vec<Path> = paths.collect::<Option<_>>()?;
+        paths.retain(|path| !path.rows.is_empty());
+        tree_of(&paths)
     }
 }
 
@@ -116,6 +112,13 @@ impl Held {
         Ok(())
     }
 
+    /// The record is that of the image's tree, or as found.
+    pub fn read_image(&mut self, bytes: &[u8]) -> Result<(), Refusal> {
+        image::read(&mut self.plan, bytes)?;
+        self.record = Record::of(&self.plan);
+        Ok(())
+    }
+
     pub fn write(&mut self, place: u64, number: u16) {
         self.record.write(place as usize, number);
         self.plan = self.record.plan();
@@ -157,24 +160,44 @@ fn node(row: Row) -> Node {
     }
 }
 
-/// The rows in use, if they are in range and the others are 0 and 0 (The tree, 2 and 15).
-fn path_of(numbers: &[u16]) -> Option<Vec<Row>> {
+/// None where a row after them is not 0 and 0.
+fn rows_in_use(numbers: &[u16]) -> Option<Vec<Row>> {
     let row = |pair: &[u16]| Row {
         weight: pair[0],
         edge: pair[1],
     };
-    let rows: Vec<Row> = numbers.chunks_exact(2).map(row).collect();
+    let mut rows: Vec<Row> = numbers.chunks_exact(2).map(row).collect();
     let used = rows.iter().take_while(|row| row.weight != 0).count();
-    let (path, rest) = rows.split_at(used);
-    let period: u64 = path.iter().fold(1, |period, row| {
+    let rest = rows.split_off(used);
+    rest.iter()
+        .all(|row| *row == Row::default())
+        .then_some(rows)
+}
+
+/// The plan in which the lines, each another one, have these paths. None where that is no tree
+/// (The tree, 15 and 16).
+pub(crate) fn tree_of(paths: &[Path]) -> Option<Plan> {
+    let mut root = None;
+    for Path { line, rows } in paths {
+        let (first, below) = rows.split_first().filter(|_| is_in_range(rows))?;
+        put(
+            root.get_or_insert_with(|| node(*first)),
+            *first,
+            below,
+            *line,
+        )?;
+    }
+    Some(Plan { root })
+}
+
+/// Weights, edges and the period (The tree, 2 and 15).
+fn is_in_range(rows: &[Row]) -> bool {
+    let period: u64 = rows.iter().fold(1, |period, row| {
         (period * u64::from(row.weight)).min(LAST_PERIOD + 1)
     });
-    let alone = path.len() == 1;
+    let alone = rows.len() == 1;
     let in_range = |row: &Row| row.edge < row.weight && (row.weight > 1 || alone);
-    let fits = path.iter().all(in_range)
-        && period <= LAST_PERIOD
-        && rest.iter().all(|row| *row == Row::default());
-    fits.then(|| path.to_vec())
+    rows.iter().all(in_range) && period <= LAST_PERIOD
 }
 
 /// Puts a line under an edge of the node, or under nodes below it. None where another

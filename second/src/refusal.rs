@@ -18,7 +18,7 @@ pub enum Refusal {
     Order = 6,
     /// List cut off inside an order, or too long (Refusals, 7).
     ListLength = 7,
-    /// The answers do not fit (Refusals, 8).
+    /// The answers do not fit (Refusals, 8), or an image does not (Ask 9, 10).
     AnswerBuffer = 8,
     /// The walker cannot move on (Refusals, 9).
     Place = 9,
@@ -28,6 +28,11 @@ pub enum Refusal {
     NoClass = 11,
     /// No line stands in the class (Ask 7, 4).
     NoLine = 12,
+    /// An image has too few bits or too many bytes (Ask 9, 7).
+    ImageLength = 13,
+    /// A number that its field of an image cannot have, a fill bit that is 1, or a tree that is not
+    /// legal (Ask 9, 7).
+    ImageField = 14,
 }
 
 impl Refusal {
@@ -55,8 +60,10 @@ mod tests {
             NoNode,
             NoClass,
             NoLine,
+            ImageLength,
+            ImageField,
         ];
         let numbers: Vec<u8> = all.iter().map(|refusal| refusal.number()).collect();
-        assert_eq!(numbers, [1, 2, 3, 4, 5, 6, 7, 8, 9, 10, 11, 12]);
+        assert_eq!(numbers, [1, 2, 3, 4, 5, 6, 7, 8, 9, 10, 11, 12, 13, 14]);
     }
 }

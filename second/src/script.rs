@@ -375,7 +375,7 @@ fn written((place, number): (u64, u16)) -> Step {
     Step::Write(place, number)
 }
 
-fn print_step(held: &mut Held, step: Step, out: &mut impl Write) -> io::Result<()> {
+pub(crate) fn print_step(held: &mut Held, step: Step, out: &mut impl Write) -> io::Result<()> {
     match step {
         Step::Open(line, period) => {
             let answer = opened(held.open(line, period));

@@ -143,7 +143,7 @@ fn deep(random: &mut Random) -> Stock {
     let mut periods: Vec<u64> = powers.filter(|p| (2..=LAST_PERIOD).contains(p)).collect();
     match random.below(4) {
         0 => periods.reverse(),
-        1 => shuffle(random, &mut periods),
+        1 => random.shuffle(&mut periods),
         _ => periods = [full_but_one_edge(factor), periods].concat(),
     }
     Stock {
@@ -162,12 +162,6 @@ fn deep(random: &mut Random) -> Stock {
 /// more edges free it would take an earlier start beside that node.
 fn full_but_one_edge(factor: u64) -> Vec<u64> {
     vec![factor; factor.saturating_sub(2) as usize]
-}
-
-fn shuffle(random: &mut Random, items: &mut [u64]) {
-    for at in (1..items.len()).rev() {
-        items.swap(at, random.below(at as u64 + 1) as usize);
-    }
 }
 
 fn primes(random: &mut Random) -> Stock {

@@ -3,10 +3,8 @@
 use super::joining::join_up;
 use super::paths::{is_closed, legal, length, same_node};
 use super::search::{best_candidate, open_lines, Spot};
-use super::{plan_in_mut, refused, Path, Plan, EMPTY, ROWS};
+use super::{plan_in_mut, refused, Path, Plan, CLOSED, EMPTY, ROWS};
 use crate::Record;
-
-const CLOSED: Path = [[0; 2]; ROWS];
 
 fn split_path(path: &mut Path, level: usize, d: u16) {
     let [weight, edge] = path[level];

@@ -73,7 +73,8 @@ impl Plan {
         Plan { rows }
     }
 
-    /// The plan's record, to be stored or sent: for each line 11 rows of weight and edge.
+    /// The plan's record, to be stored or sent: for each line 11 rows of weight and edge. [`Plan::to_image`] gives
+    /// bytes.
     pub const fn record(&self) -> &[u16; raw::PLAN_NUMBERS] {
         &self.rows
     }
@@ -275,7 +276,7 @@ impl Plan {
     ///
     /// # Errors
     ///
-    /// [`Refusal::ListLength`] and [`Refusal::AnswersTooShort`]. Plan and buffer are then as found.
+    /// [`Refusal::ListLength`] and [`Refusal::BufferTooShort`]. Plan and buffer are then as found.
     pub fn run_list_into<'list>(
         &mut self,
         orders: &'list [u8],
@@ -284,6 +285,63 @@ impl Plan {
         outcome(raw::run_list(&mut self.rows, orders, answers))?;
         let written = &answers[..answers_length(orders.len())];
         Ok(Answers::written(orders, written))
+    }
+
+    /// The image of the plan: its paths as bits, to be read on any machine. 7 bits say how many lines are open. Then
+    /// come the open lines, the lowest first, with 6 bits for the line, 4 for how many rows its path has, and 24 for
+    /// each row, half of them for the weight and half for the edge. Each number begins with its highest bit, and what
+    /// is left of the last byte is 0. Two plans have the same image if and only if they have the same tree.
+    ///
+    /// ```
+    /// use gaplinte::{Line, Period, Plan, Refusal};
+    ///
+    /// let mut plan = Plan::new();
+    /// plan.open(Line(5), Period(6))?;
+    /// let image = plan.to_image();
+    /// assert_eq!(image, [0x02, 0x28, 0x80, 0x30, 0x00, 0x00]);
+    /// assert_eq!(Plan::from_image(&image), Ok(plan));
+    /// assert_eq!(Plan::from_image(&image[..5]), Err(Refusal::ImageLength));
+    /// # Ok::<(), Refusal>(())
+    /// ```
+    pub fn to_image(&self) -> Vec<u8> {
+        let mut image = [0; raw::IMAGE_BYTES];
+        let length = self.write_image(&mut image).expect("no image is longer");
+        image[..length].to_vec()
+    }
+
+    /// The plan with an image's tree.
+    ///
+    /// # Errors
+    ///
+    /// As [`Plan::read_image`], in the same sequence of checks.
+    pub fn from_image(image: &[u8]) -> Result<Plan, Refusal> {
+        let mut plan = Plan::new();
+        plan.read_image(image)?;
+        Ok(plan)
+    }
+
+    /// Writes the image that [`Plan::to_image`] gives into a lent buffer, and gives its length. Later bytes of the
+    /// buffer are left alone. One of [`raw::IMAGE_BYTES`] is never too short.
+    ///
+    /// # Errors
+    ///
+    /// [`Refusal::BufferTooShort`]. The buffer is then as found.
+    pub fn write_image(&self, buffer: &mut [u8]) -> Result<usize, Refusal> {
+        outcome(raw::write_image(&self.rows, buffer)).map(|length| length as usize)
+    }
+
+    /// Reads an image: the plan, whatever it was, gets the image's tree.
+    ///
+    /// # Errors
+    ///
+    /// The first number of the image that cannot be read: [`Refusal::ImageLength`] where the bytes end inside it, and
+    /// [`Refusal::ImageField`] where it says 65 lines or more, no rows or 12 and more, or the weight 0. Where all can
+    /// be read, [`Refusal::ImageLength`] if another byte comes behind them, else [`Refusal::ImageField`] if what is
+    /// left of the last byte is not 0, else [`Refusal::ImageField`] for any of these: a line number that is not above
+    /// the one before it, an edge that is not below its weight, a period above 4,095, a weight of 1 beside other rows,
+    /// two weights at one place, a line at another's place or on the way to it. The plan is then as found.
+    pub fn read_image(&mut self, image: &[u8]) -> Result<(), Refusal> {
+        outcome(raw::read_image(&mut self.rows, image)).map(drop)
     }
 }
 

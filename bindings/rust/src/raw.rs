@@ -7,6 +7,8 @@ pub const PLAN_NUMBERS: usize = 1408;
 pub const SHOWN_NUMBERS: usize = 24;
 /// The numbers that sheet writes: the turns of each of the 64 lines, and the idle rounds.
 pub const SHEET_NUMBERS: usize = 65;
+/// The bytes of the longest image.
+pub const IMAGE_BYTES: usize = 2193;
 /// A value of owner or of the walker from this on says that the round is idle, and is this plus the rest.
 pub const IDLE_FROM: i64 = 64;
 /// A value of reason that is no line: the node's step does not divide the period.
@@ -61,6 +63,16 @@ mod foreign {
             answers: *mut u8,
             answer_bytes: usize,
         ) -> i64;
+        fn gaplinte_write_image(
+            rows: &[u16; PLAN_NUMBERS],
+            buffer: *mut u8,
+            buffer_bytes: usize,
+        ) -> i64;
+        fn gaplinte_read_image(
+            rows: &mut [u16; PLAN_NUMBERS],
+            image: *const u8,
+            image_bytes: usize,
+        ) -> i64;
         pub safe fn gaplinte_pack(kind: u64, line: u64, period: u64, order: &mut [u8; 3]) -> i64;
         pub safe fn gaplinte_read(order: &[u8; 3], call: &mut [u16; 3]) -> i64;
         pub safe fn gaplinte_is_tree(rows: &[u16; PLAN_NUMBERS]) -> i64;
@@ -77,6 +89,16 @@ mod foreign {
                 answers.len(),
             )
         }
+    }
+
+    /// Likewise.
+    pub fn write_image(rows: &[u16; PLAN_NUMBERS], buffer: &mut [u8]) -> i64 {
+        unsafe { gaplinte_write_image(rows, buffer.as_mut_ptr(), buffer.len()) }
+    }
+
+    /// Likewise.
+    pub fn read_image(rows: &mut [u16; PLAN_NUMBERS], image: &[u8]) -> i64 {
+        unsafe { gaplinte_read_image(rows, image.as_ptr(), image.len()) }
     }
 }
 
@@ -148,6 +170,19 @@ pub fn walk(rows: &[u16; PLAN_NUMBERS], place: &mut [u64; 2]) -> i64 {
 #[must_use]
 pub fn run_list(rows: &mut [u16; PLAN_NUMBERS], orders: &[u8], answers: &mut [u8]) -> i64 {
     foreign::run_list(rows, orders, answers)
+}
+
+/// Writes the image of a plan; the value is its length in bytes, and later bytes of the buffer are left alone. Refused
+/// with 8.
+#[must_use]
+pub fn write_image(rows: &[u16; PLAN_NUMBERS], buffer: &mut [u8]) -> i64 {
+    foreign::write_image(rows, buffer)
+}
+
+/// Reads an image, whose tree the plan gets; the value is 0. Refused with 13 or 14.
+#[must_use]
+pub fn read_image(rows: &mut [u16; PLAN_NUMBERS], image: &[u8]) -> i64 {
+    foreign::read_image(rows, image)
 }
 
 /// Packs an order; the value is 0. Refused with 6, 1 or 2.

@@ -20,8 +20,8 @@ pub enum Refusal {
     NoOrder = 6,
     /// List length not a multiple of 3, or above 65,535.
     ListLength = 7,
-    /// Answer buffer shorter than 2 bytes per order.
-    AnswersTooShort = 8,
+    /// Answer buffer shorter than 2 bytes per order, or buffer shorter than the image.
+    BufferTooShort = 8,
     /// Walker with either number at 2^64 - 1.
     WalkerAtEnd = 9,
     /// No node has this level and offset.
@@ -30,11 +30,15 @@ pub enum Refusal {
     NoClass = 11,
     /// No line stands under an edge of the class.
     NoLineInClass = 12,
+    /// Image of which bits are missing, or with bytes after the last one.
+    ImageLength = 13,
+    /// Image with a field out of range, a 1 among the bits that fill its last byte, or a tree that is not legal.
+    ImageField = 14,
 }
 
 impl Refusal {
     /// Every refusal, in rising number.
-    pub const ALL: [Refusal; 12] = [
+    pub const ALL: [Refusal; 14] = [
         Refusal::LineAbove63,
         Refusal::PeriodOutOfRange,
         Refusal::LineOpen,
@@ -42,14 +46,16 @@ impl Refusal {
         Refusal::NoCandidate,
         Refusal::NoOrder,
         Refusal::ListLength,
-        Refusal::AnswersTooShort,
+        Refusal::BufferTooShort,
         Refusal::WalkerAtEnd,
         Refusal::NoNode,
         Refusal::NoClass,
         Refusal::NoLineInClass,
+        Refusal::ImageLength,
+        Refusal::ImageField,
     ];
 
-    /// The refusal with this number, 1 to 12.
+    /// The refusal with this number, 1 to 14.
     pub fn numbered(number: u8) -> Option<Refusal> {
         Refusal::ALL
             .into_iter()
@@ -73,11 +79,15 @@ impl Refusal {
                 "no order: the kind is above 1, a close has a period, or one of the last four bits is 1"
             }
             Refusal::ListLength => "the list is longer than 65535 bytes or ends inside an order",
-            Refusal::AnswersTooShort => "the buffer has fewer than two bytes for each order",
+            Refusal::BufferTooShort => "the buffer is too short for the answers or the image",
             Refusal::WalkerAtEnd => "the walker's next round or count is 2^64 - 1",
             Refusal::NoNode => "no node has this level and offset",
             Refusal::NoClass => "the node has no such class for the period",
             Refusal::NoLineInClass => "no line stands in the class",
+            Refusal::ImageLength => "bits of the image are missing, or bytes follow its last one",
+            Refusal::ImageField => {
+                "no image: a field is out of range, a bit that fills the last byte is 1, or the tree is not legal"
+            }
         }
     }
 }

@@ -147,7 +147,7 @@ fn case_i() {
     assert_eq!(run.collect::<Vec<_>>(), told);
     assert_eq!(Plan::new().run_list(&orders), Ok(told.to_vec()));
     assert!(Answers::of(&orders, &answers).unwrap().eq(told));
-    // Results 0, 0, 5, 0, 0, 4 and starts 0, 1, 1; the bytes beyond are untouched.
+    // Results 0, 0, 5, 0, 0, 4 and starts 0, 1, 1; the bytes behind them stay.
     let expected = [
         0x00, 0x00, 0x00, 0x01, 0x50, 0x00, 0x00, 0x00, 0x00, 0x01, 0x40, 0x00, 0xee, 0xee,
     ];

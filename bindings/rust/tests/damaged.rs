@@ -100,6 +100,29 @@ fn asked_for_reasons() {
     }
 }
 
+/// It is written as the empty plan. What is read takes its place, or leaves it as found.
+#[test]
+fn images() {
+    let mut fresh = Plan::new();
+    assert_eq!(fresh.open(Line(3), Period(12)), Ok(Start(0)));
+    // 0000001, 000011 0001, 000000001100 000000000000, and seven bits more
+    let image = [0x02, 0x18, 0x80, 0x60, 0x00, 0x00];
+    for found in damaged() {
+        let mut plan = found.clone();
+        assert_eq!(plan.to_image(), [0x00]);
+        let refused = plan.write_image(&mut []);
+        assert_eq!(refused, Err(Refusal::BufferTooShort));
+        let mut buffer = [0xee; 2];
+        assert_eq!(plan.write_image(&mut buffer), Ok(1));
+        assert_eq!(buffer, [0x00, 0xee]);
+        assert_eq!(plan.read_image(&image[1..]), Err(Refusal::ImageField));
+        assert_eq!(plan.read_image(&image[..5]), Err(Refusal::ImageLength));
+        assert_eq!(plan, found);
+        assert_eq!(plan.read_image(&image), Ok(()));
+        assert_eq!(plan, fresh);
+    }
+}
+
 #[test]
 fn changed() {
     let mut fresh = Plan::new();

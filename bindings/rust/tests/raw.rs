@@ -58,6 +58,24 @@ fn values() {
     assert_eq!(raw::is_tree(&[1; raw::PLAN_NUMBERS]), 0);
 }
 
+/// 1 line; line 5 with 1 row; weight 4 and edge 0; 7 bits that are 0.
+#[test]
+fn an_image_is_bytes() {
+    let rows = one_line();
+    let image = [0x02, 0x28, 0x80, 0x20, 0x00, 0x00];
+    let mut buffer = [0xee; 8];
+    assert_eq!(raw::write_image(&rows, &mut buffer), 6);
+    assert_eq!(buffer[..6], image);
+    assert_eq!(buffer[6..], [0xee; 2]);
+    let mut other = [9; raw::PLAN_NUMBERS];
+    assert_eq!(raw::write_image(&other, &mut buffer[..1]), 1);
+    assert_eq!(buffer[..2], [0x00, 0x28]);
+    assert_eq!(raw::read_image(&mut other, &image), 0);
+    assert_eq!(other, rows);
+    assert_eq!(raw::read_image(&mut other, &[0x00]), 0);
+    assert_eq!(other, [0; raw::PLAN_NUMBERS]);
+}
+
 /// Under edge 1 of the root, which has weight 2, stands a node of step 2.
 #[test]
 fn a_step_that_does_not_divide() {
@@ -168,5 +186,28 @@ fn refusals_of_lists() {
             raw::run_list(rows, &orders, answers)
         });
         assert_eq!(run, answer, "{order_bytes} bytes, {room} lent");
+    }
+}
+
+#[test]
+fn refusals_of_images() {
+    let rows = one_line();
+    for room in 0..6 {
+        let mut buffer = vec![0xee; room];
+        let written = kept(&mut buffer, |buffer| raw::write_image(&rows, buffer));
+        assert_eq!(written, -8);
+    }
+    let refused: [(&[u8], i64); 6] = [
+        (&[], -13),
+        (&[0x02, 0x28, 0x80, 0x20, 0x00], -13),
+        (&[0x02, 0x28, 0x80, 0x20, 0x00, 0x00, 0x00], -13),
+        (&[0x02, 0x28, 0x80, 0x20, 0x00, 0x01], -14),
+        (&[0x02, 0x28, 0x80, 0x00], -14),
+        (&[0x82], -14),
+    ];
+    for (bytes, answer) in refused {
+        let mut rows = one_line();
+        let read = kept(&mut rows, |rows| raw::read_image(rows, bytes));
+        assert_eq!(read, answer, "{bytes:x?}");
     }
 }

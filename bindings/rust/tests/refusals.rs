@@ -32,18 +32,20 @@ fn numbers() {
         Refusal::NoCandidate,
         Refusal::NoOrder,
         Refusal::ListLength,
-        Refusal::AnswersTooShort,
+        Refusal::BufferTooShort,
         Refusal::WalkerAtEnd,
         Refusal::NoNode,
         Refusal::NoClass,
         Refusal::NoLineInClass,
+        Refusal::ImageLength,
+        Refusal::ImageField,
     ]
     .map(Refusal::number);
-    assert_eq!(numbers, [1, 2, 3, 4, 5, 6, 7, 8, 9, 10, 11, 12]);
+    assert_eq!(numbers, [1, 2, 3, 4, 5, 6, 7, 8, 9, 10, 11, 12, 13, 14]);
     assert_eq!(Refusal::ALL.map(Refusal::number), numbers);
     for number in 0..=255 {
         let refusal = Refusal::numbered(number);
-        assert_eq!(refusal.is_some(), (1..=12).contains(&number));
+        assert_eq!(refusal.is_some(), (1..=14).contains(&number));
         assert!(refusal.is_none_or(|refusal| refusal.number() == number));
     }
 }
@@ -218,10 +220,43 @@ fn list_length_and_short_answers() {
     for orders in [1, 2, 21_845] {
         let list = [0x01, 0x00, 0x80].repeat(orders);
         let short = &mut answers[..2 * orders - 1];
-        assert_eq!(refused(&list, short), Refusal::AnswersTooShort);
-        assert_eq!(refused(&list, &mut []), Refusal::AnswersTooShort);
+        assert_eq!(refused(&list, short), Refusal::BufferTooShort);
+        assert_eq!(refused(&list, &mut []), Refusal::BufferTooShort);
     }
     assert!(answers.iter().all(|&byte| byte == 0xee));
+    assert_eq!(plan, one_line());
+}
+
+/// The image of one line under one node has 6 bytes.
+#[test]
+fn short_buffer_for_an_image() {
+    let plan = one_line();
+    let mut buffer = [0xee; 5];
+    for room in 0..=5 {
+        let refused = plan.write_image(&mut buffer[..room]);
+        assert_eq!(refused, Err(Refusal::BufferTooShort));
+    }
+    assert_eq!(buffer, [0xee; 5]);
+    assert_eq!(plan.write_image(&mut [0xee; 6]), Ok(6));
+}
+
+/// No bytes; 64 lines that are missing, and 65; one more byte; a bit that fills the byte.
+#[test]
+fn no_image() {
+    let (length, field) = (Refusal::ImageLength, Refusal::ImageField);
+    let refused: [(&[u8], _); 6] = [
+        (&[], length),
+        (&[0x80], length),
+        (&[0x82], field),
+        (&[0x00, 0x00], length),
+        (&[0x01], field),
+        (&[0x01, 0x00], length),
+    ];
+    let mut plan = one_line();
+    for (bytes, refusal) in refused {
+        assert_eq!(plan.read_image(bytes), Err(refusal));
+        assert_eq!(Plan::from_image(bytes), Err(refusal));
+    }
     assert_eq!(plan, one_line());
 }
 
@@ -262,10 +297,10 @@ fn bytes_that_are_no_answers() {
     assert_eq!(told(&close, &[0x00, 0x01]), None);
     assert_eq!(told(&open, &[0x50, 0x01]), None);
     // a result that no order has, or not this one
-    for result in [1, 4, 6, 7, 8, 9, 10, 11, 12, 15] {
+    for result in [1, 4, 6, 7, 8, 9, 10, 11, 12, 13, 14, 15] {
         assert_eq!(told(&open, &[result << 4, 0x00]), None);
     }
-    for result in [1, 2, 3, 5, 6, 7, 8, 9, 10, 11, 12, 15] {
+    for result in [1, 2, 3, 5, 6, 7, 8, 9, 10, 11, 12, 13, 14, 15] {
         assert_eq!(told(&close, &[result << 4, 0x00]), None);
     }
     for result in [0, 1, 2, 3, 4, 5] {

@@ -1,5 +1,5 @@
-//! The same calls put to the second program, which is written from document 01 and, of document 02, Ask 1, Ask 3, Ask 4,
-//! Ask 5, Ask 6, Ask 7 and Ask 8; Ask 2 changes no answer. Every answer agrees.
+//! The same calls put to the second program, which is written from document 01 and, of document 02, Ask 1 and Ask 3 to
+//! Ask 9; Ask 2 changes no answer. Every answer agrees. The calls of Ask 9 are in `images.rs`.
 
 mod drawn;
 

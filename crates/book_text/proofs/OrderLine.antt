@@ -6,9 +6,9 @@ use mathlib.Core.Path.{◌≡◌, ◌∙◌, ap, ap₂}
 use mathlib.Core.List.{List, [], ◌∷◌}
 use lib.ListN.{length, length-append}
 use Rattle.tree.specs.Calls.{Answer, booked, done, refused}
-use Rattle.orders.specs.Field.{field, joined}
+use Rattle.bits.specs.Field.{field, joined}
 use Rattle.orders.specs.Order.{kind, line, period, fields_of}
-use Rattle.orders.proofs.FieldLaws.{field_below}
+use Rattle.bits.proofs.FieldLaws.{field_below}
 use Rattle.lists.specs.Lists.{result_field, start, answer_word, high_byte, low_byte}
 use Rattle.book_text.specs.BookText.{decimal, text_line, start_word, order_line}
 use Rattle.book_text.specs.Writing.{line_printed}

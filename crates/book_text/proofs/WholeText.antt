@@ -18,8 +18,8 @@ use Rattle.bridge.specs.Rows.{tree_of_rows}
 use Rattle.bridge.proofs.CarriedLegal.{empty_recorded}
 use Rattle.lists.specs.Lists.{orders_of, order_after, list_answers, answer_bytes, length_refused, room_refused, list_refusal}
 use Rattle.tree.specs.declared.refusal.Refusal.{Refusal}
-use Rattle.tree.specs.Answered.{number_of}
-use Rattle.lists.specs.Runs.{refusal_in, bytes_after, bytes_after_list, ListRan}
+use Rattle.tree.specs.Answered.{number_of, refusal_in}
+use Rattle.lists.specs.Runs.{bytes_after, bytes_after_list, ListRan}
 use Rattle.lists.proofs.ListChecks.{fit_length, unfit_length, checks_passed}
 use Rattle.lists.proofs.OrdersInTurn.{orders_counted}
 use Rattle.book_text.specs.BookText.{header, list_line, order_lines, book_text}

@@ -49,13 +49,13 @@ unfolding together
 parts_together ps qs h = rw (h, or-true, or-true)
 
 -- a line of a legal tree has a node above it
-path_has_rows : (t : Tree) (M : ℕ) (rs : List Row) → Legal t → path M t ≡ Some rs → no_rows rs ≡ false
+pub path_has_rows : (t : Tree) (M : ℕ) (rs : List Row) → Legal t → path M t ≡ Some rs → no_rows rs ≡ false
 unfolding Legal path no_rows
 path_has_rows nothing M rs is_legal h = absurd (none-some rs h)
 path_has_rows (line n) M rs is_legal h = absurd is_legal
 path_has_rows (node w f) M rs is_legal h = ap no_rows (path_below M w f rs h).rows_are
 
-beyond_no_path : (t : Tree) (M : ℕ) → Legal t → 64 ≤ M → path M t ≡ None
+pub beyond_no_path : (t : Tree) (M : ℕ) → Legal t → 64 ≤ M → path M t ≡ None
 beyond_no_path t M is_legal beyond = by_path (path M t) refl
   where
     by_path : (o : Option (List Row)) → path M t ≡ o → path M t ≡ None

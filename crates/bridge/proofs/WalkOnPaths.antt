@@ -49,7 +49,7 @@ root_node nothing legal here = absurd (false≢true here)
 root_node (line n) legal here = absurd legal
 root_node (node w f) legal here = (w, f, refl)
 
-long_has_rows : (rs : List Row) → 0 < length rs → no_rows rs ≡ false
+pub long_has_rows : (rs : List Row) → 0 < length rs → no_rows rs ≡ false
 unfolding no_rows
 long_has_rows [] long = absurd (omega arith)
 long_has_rows (r ∷ rs) long = refl

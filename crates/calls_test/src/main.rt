@@ -6,51 +6,13 @@
 ghost use Rattle.tree.specs.Record.{tree_of};
 ghost use Rattle.plan.specs.Walker.{WalkedOn};
 
-use plan::ask::Shown;
 use plan::walker::{Walked, WalkerPlace};
 use reasons::Reason;
-use test_script::{Step, begin, print_owner, run_owner, run_script, write_number};
-use tree::{Period, Plan, Row};
-
-// A number too large for a period is out of range, and stays so. Not `tree::period_asked`: a period of 16 bits is put as it is.
-fn period_of(asked: u64) -> Period {
-    Period(u16::try_from(asked).unwrap_or(u16::MAX))
-}
-
-fn run_open(rt: &impl Print, plan: Plan, line: u64, period: u64) -> Plan {
-    let opened = plan::change::open(plan, line, period_of(period));
-    let _ = match opened.answer {
-        Ok(start) => println!(rt; "open {line} {period} 0 {}", start.0),
-        Err(refusal) => println!(rt; "open {line} {period} {} -", u8::from(refusal)),
-    };
-    opened.plan
-}
-
-fn run_close(rt: &impl Print, plan: Plan, line: u64) -> Plan {
-    let closed = plan::change::close(plan, line);
-    let _ = match closed.answer {
-        Ok(()) => println!(rt; "close {line} 0"),
-        Err(refusal) => println!(rt; "close {line} {}", u8::from(refusal)),
-    };
-    closed.plan
-}
-
-fn print_shown(rt: &impl Print, line: u64, shown: Shown) {
-    let _ = print!(rt; "show {line} 0 {} {}", shown.period.0, shown.start.0);
-    for Row { weight, edge } in shown.rows {
-        let _ = print!(rt; " {weight} {edge}");
-    }
-    let _ = println!(rt);
-}
-
-fn run_show(rt: &impl Print, plan: &Plan, line: u64) {
-    match plan::ask::show(plan, line) {
-        Ok(shown) => print_shown(rt, line, shown),
-        Err(refusal) => {
-            let _ = println!(rt; "show {line} {}", u8::from(refusal));
-        }
-    }
-}
+use test_script::{
+    Step, begin, period_of, print_owner, run_close, run_open, run_owner, run_script, run_show,
+    write_number,
+};
+use tree::Plan;
 
 fn run_turns(rt: &impl Print, plan: &Plan, line: u64, first: u64, rounds: u32) {
     let _ = match plan::ask::turns(plan, line, first, rounds) {

@@ -10,7 +10,7 @@ use lib.IntN.{ℤ}
 use mir.Syntax.{w64}
 use mir.Val.{to_z, of_z}
 use Rattle.tree.specs.declared.refusal.Refusal.{Refusal}
-use Rattle.tree.specs.Answered.{outcome_of}
+use Rattle.tree.specs.Answered.{outcome_of, refusal_in}
 use Rattle.tree.specs.Refusals.{first_refusal, line_above_63}
 use Rattle.tree.specs.Calls.{Outcome, gives, gives_unless}
 use Rattle.orders.specs.Packing.{kind_above_1, period_above_4095, packing_refusal, packing}
@@ -44,6 +44,12 @@ pub valued : {A : Type 0} (f : A → ℕ) (r : Result A Refusal) (s : Result ℕ
     MatchResult r (λ x. IsOkAnd s (P x)) (λ e. s ≡ Err e) → ((x : A) (y : ℕ) → P x y → y ≡ f x) → outcome_of f r ≡ o → IsAnswer (outcome_of (λ y. y) s) n →
     to_z w64 (of_z w64 n) ≡ answer_number o
 valued f r s cases is given answered = answer_read_back _ _ answered ∙ ap answer_number (mapped f r s cases is ∙ given)
+
+-- a call that gives nothing has the value 0
+pub done_told : (r : Result Unit Refusal) → outcome_of {B = ℕ} (λ u. 0) r ≡ gives_unless (refusal_in r) 0
+unfolding outcome_of gives_unless refusal_in
+done_told (Ok u) = refl
+done_told (Err e) = refl
 
 -- a call that writes what it gives into a record that is lent: its answer, and the numbers there, as found where it is refused
 pub record Written {A : Type 0} (numbers : A → List ℕ) (lent after : List ℕ) (o : Outcome A) (n : ℤ) : Type 0 where

@@ -1,11 +1,11 @@
--- An answer of a call tells its outcome, since no refusal is 0: the calls refuse with 1 to 12 alone, and every value is below 2^32.
+-- An answer of a call tells its outcome, since no refusal is 0: the calls refuse with 1 to 14 alone, and every value is below 2^32.
 -- Assumes nothing.
 use Rattle.std.specs.Prelude.{if◌then◌else◌, Option, None, Some}
 use Prim.Native.Nat.{ℕ, zero, suc, ◌-◌, ◌^◌, ◌%◌, ◌<◌, ◌≤◌}
 use native.Mathlib.Omega.{arith}
 use mathlib.Core.Path.{◌≡◌, refl, ◌∙◌, ap}
 use mathlib.Core.Bool.{Bool, true, false}
-use mathlib.Core.List.{List, [], ◌∷◌}
+use mathlib.Core.List.{List}
 use lib.IntN.{ℤ, negsuc}
 use lib.ListN.{length}
 use mir.Syntax.{Width, w8, w16, w32, w64, w128}
@@ -16,9 +16,11 @@ use Rattle.tree.specs.Shape.{Legal}
 use Rattle.tree.specs.Opening.{opened, start_given}
 use Rattle.tree.specs.Asking.{owner_or_rest}
 use Rattle.tree.specs.Reason.{reason}
-use Rattle.tree.specs.Refusals.{Check, refuse, first_refusal, line_refusal, reason_refusal}
-use Rattle.tree.specs.Calls.{Call, open_line, close_line, refusal, reply, answer_unless, answer, Outcome, gives, refuses, gives_unless, show_outcome, turns_outcome, reason_outcome}
+use Rattle.tree.specs.Refusals.{reason_refusal}
+use Rattle.tree.specs.Calls.{Call, open_line, close_line, refusal, reply, answer_unless, answer, Outcome, gives, refuses, gives_unless, refusal_of, show_outcome, turns_outcome, reason_outcome}
 use Rattle.tree.specs.Trial.{trial_outcome}
+use Rattle.tree.specs.Image.{write_outcome}
+use Rattle.tree.specs.ImageReading.{read_outcome}
 use Rattle.tree.specs.Record.{legal}
 use Rattle.tree.proofs.Standing.{start_below_period}
 use Rattle.tree.proofs.Ownership.{turns_at_most}
@@ -26,17 +28,20 @@ use Rattle.tree.proofs.Checks.{open_may}
 use Rattle.tree.proofs.Opening.{opened_new}
 use Rattle.bridge.specs.Rows.{tree_of_rows}
 use Rattle.bridge.proofs.TreeOfRecord.{legal_on_record}
+use Rattle.images.proofs.ImageLength.{image_length_at_most}
 use Rattle.plan.specs.declared.walker.WalkerPlace.{WalkerPlace}
 use Rattle.plan.specs.Walker.{at_end, walk_outcome}
 use Rattle.orders.specs.Order.{order_of}
-use Rattle.orders.specs.Packing.{packing_refusal, packing}
+use Rattle.orders.specs.Packing.{packing}
 use Rattle.orders.specs.Reading.{reading}
 use Rattle.lists.specs.Lists.{list_refusal}
-use Rattle.lists.proofs.AnswersFit.{Small, refusal_small, reading_small}
+use Rattle.lists.proofs.AnswersFit.{refusal_small, reading_small}
 use Rattle.gaplinte.specs.Answer.{answer_number, zero_value, outcome_told, InRange, Tells, narrowed}
 use Rattle.gaplinte.specs.Served.{change_outcome, ChangeServed, owner_value, owner_outcome, tree_outcome, ShowServed, TrialServed, reason_number, SheetServed, walk_value, place_of, WalkServed, list_outcome, ListServed}
 use Rattle.gaplinte.specs.OrdersServed.{bytes_in, PackServed, ReadServed}
+use Rattle.gaplinte.specs.ImagesServed.{ImageWriteServed, ImageReadServed}
 use Rattle.gaplinte.proofs.ValuesBelow.{owner_at_most, reason_at_most}
+use Rattle.gaplinte.proofs.RefusalsInRange.{RefusalInRange, small_in_range, EachInRange, first_in_range, line_refusal_in_range, list_refusal_in_range, packing_refusal_in_range, reason_refusal_in_range, image_in_range}
 
 -- An outcome in range is told
 
@@ -68,48 +73,6 @@ refusal_survives w (suc n) narrow range = ap (to_z w) (lowest_bits w narrow) ∙
     fits w32 h = record { sfits = omega (arith, range.1) }
     fits w64 h = record { sfits = omega (arith, range.1) }
     fits w128 h = absurd (omega arith)
-
--- The refusals of the calls
-
--- a refusal in range, if it is one
-RefusalInRange : Option ℕ → Type 0
-RefusalInRange None = Unit
-RefusalInRange (Some n) = InRange (refuses n)
-
--- one of fewer digits is
-small_in_range : (o : Option ℕ) → Small o → RefusalInRange o
-unfolding RefusalInRange InRange Small
-small_in_range None small = tt
-small_in_range (Some n) small = (omega (arith, small.0), omega (arith, small.1))
-
--- each of these checks refuses with a number in range
-EachInRange : List Check → Type 0
-EachInRange [] = Unit
-EachInRange (refuse n strikes ∷ checks) = InRange (refuses n) × EachInRange checks
-
-first_in_range : (checks : List Check) → EachInRange checks → RefusalInRange (first_refusal checks)
-unfolding RefusalInRange EachInRange first_refusal
-first_in_range [] each = tt
-first_in_range (refuse n true ∷ checks) each = each.0
-first_in_range (refuse n false ∷ checks) each = first_in_range checks each.1
-
-line_refusal_in_range : (L : ℕ) (t : Tree) → RefusalInRange (line_refusal L t)
-unfolding EachInRange InRange line_refusal
-line_refusal_in_range L t = first_in_range _ ((omega arith, omega arith), ((omega arith, omega arith), tt))
-
-list_refusal_in_range : (n room : ℕ) → RefusalInRange (list_refusal n room)
-unfolding EachInRange InRange list_refusal
-list_refusal_in_range n room = first_in_range _ ((omega arith, omega arith), ((omega arith, omega arith), tt))
-
-packing_refusal_in_range : (k L p : ℕ) → RefusalInRange (packing_refusal k L p)
-unfolding EachInRange InRange packing_refusal
-packing_refusal_in_range k L p =
-    first_in_range _ ((omega arith, omega arith), ((omega arith, omega arith), ((omega arith, omega arith), ((omega arith, omega arith), tt))))
-
-reason_refusal_in_range : (p : ℕ) (a : Place) (i : ℕ) (t : Tree) → RefusalInRange (reason_refusal p a i t)
-unfolding EachInRange InRange reason_refusal
-reason_refusal_in_range p a i t =
-    first_in_range _ ((omega arith, omega arith), ((omega arith, omega arith), ((omega arith, omega arith), ((omega arith, omega arith), tt))))
 
 -- Their outcomes are in range
 
@@ -168,6 +131,12 @@ tree_in_range rows = by_test (legal rows)
     by_test true = omega arith
     by_test false = omega arith
 
+-- what is read of an image has the value 0
+read_in_range : {A : Type 0} (o : Outcome A) → RefusalInRange (refusal_of o) → InRange (zero_value o)
+unfolding RefusalInRange InRange zero_value refusal_of
+read_in_range (gives a) range = omega arith
+read_in_range (refuses n) range = range
+
 -- The calls
 
 pub change_tells : (c : Call) (before after : List ℕ) (r : ℤ) → ChangeServed c before after r → Tells (change_outcome (answer c (tree_of_rows before))) r
@@ -216,3 +185,11 @@ pack_tells k L p before after r served = tells _ r (zero_in_range _ _ (packing_r
 pub read_tells : (order before after : List ℕ) (r : ℤ) → ReadServed order before after r → Tells (zero_value (reading (order_of (bytes_in order)))) r
 unfolding reading
 read_tells order before after r served = tells _ r (zero_in_range _ _ (small_in_range _ (reading_small _))) served.answer_is
+
+pub write_image_tells : (rows before after : List ℕ) (r : ℤ) → ImageWriteServed rows before after r → Tells (write_outcome (length before) (tree_of_rows rows)) r
+unfolding write_outcome EachInRange InRange
+write_image_tells rows before after r served =
+    tells _ r (value_in_range _ _ (first_in_range _ ((omega arith, omega arith), tt)) (omega (arith, image_length_at_most (tree_of_rows rows) (legal_on_record rows)))) served.answer_is
+
+pub read_image_tells : (bytes before after : List ℕ) (r : ℤ) → ImageReadServed bytes before after r → Tells (zero_value (read_outcome bytes)) r
+read_image_tells bytes before after r served = tells _ r (read_in_range (read_outcome bytes) (image_in_range bytes)) served.answer_is

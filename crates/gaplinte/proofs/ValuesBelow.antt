@@ -1,10 +1,11 @@
--- The values that calls give, with their bounds: a line, or 64 and the rest; a number of turns; a line, or 64; the line of an order that was read.
+-- The values that calls give, with their bounds: a line, or 64 and the rest; a number of turns; a line, or 64; an image's length; the line of an order that was read.
 -- Assumes nothing.
 use Rattle.std.specs.Prelude.{if◌then◌else◌, Option, None, Some, unwrap_or}
 use Prim.Native.Nat.{ℕ, zero, suc, ◌<◌, ◌≤◌}
 use native.Mathlib.Omega.{arith}
 use mathlib.Core.Path.{◌≡◌, refl, ◌∙◌, ap}
 use mathlib.Core.Bool.{Bool, true, false}
+use lib.ListN.{length}
 use Rattle.tree.specs.Numbers.{divides}
 use Rattle.tree.specs.Tree.{Tree, nothing, line as leaf, node, Place, at, step}
 use Rattle.tree.specs.Shape.{Legal}
@@ -12,15 +13,17 @@ use Rattle.tree.specs.Asking.{owner, rest, OwnerOrRest, or_rest, owner_or_rest, 
 use Rattle.tree.specs.Reason.{Reason, step_does_not_divide, line_stands, line_in_class, reason}
 use Rattle.tree.specs.Refusals.{line_refusal, reason_refusal}
 use Rattle.tree.specs.Calls.{Call, gives, refuses, gives_unless, turns_outcome, reason_outcome}
+use Rattle.tree.specs.Image.{image, write_outcome}
 use Rattle.tree.proofs.Ownership.{turns_at_most}
 use Rattle.tree.proofs.Searching.{smallest_some}
 use Rattle.tree.proofs.Numbering.{owner_below_64}
 use Rattle.tree.proofs.Resting.{rest_at_most}
+use Rattle.images.proofs.ImageLength.{image_length_at_most}
 use Rattle.plan.specs.declared.walker.WalkerPlace.{WalkerPlace}
 use Rattle.plan.specs.Walker.{at_end, walk_outcome}
 use Rattle.orders.specs.Order.{kind, line, period}
 use Rattle.orders.specs.Reading.{reading_refusal, call_of, line_of, reading}
-use Rattle.orders.proofs.FieldLaws.{field_below}
+use Rattle.bits.proofs.FieldLaws.{field_below}
 use Rattle.gaplinte.specs.Served.{owner_value, reason_value}
 
 -- what a call gives is what it would give if it were not refused
@@ -76,6 +79,11 @@ reason_at_most p a i t = by_test (divides (step a t) p)
 pub reason_given : (p : ℕ) (a : Place) (i : ℕ) (t : Tree) (r : Reason) → gives r ≡ reason_outcome p a i t → reason_value r ≤ 64
 unfolding reason_outcome
 reason_given p a i t r given = rw (given_value (reason_refusal p a i t) (reason p a i t) r given) (reason_at_most p a i t)
+
+-- an image has at most 2,193 bytes
+pub image_given : (room : ℕ) (t : Tree) (n : ℕ) → Legal t → gives n ≡ write_outcome room t → n ≤ 2193
+unfolding write_outcome
+image_given room t n is_legal given = rw (given_value _ (length (image t)) n given) (image_length_at_most t is_legal)
 
 -- the line of an order that is read has 6 bits
 call_line : (k L p : ℕ) → line_of (call_of k L p) ≡ L

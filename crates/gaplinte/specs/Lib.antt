@@ -2,3 +2,4 @@
 pub mod Answer
 pub mod Served
 pub mod OrdersServed
+pub mod ImagesServed

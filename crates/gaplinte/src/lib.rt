@@ -6,6 +6,7 @@
 mod answers;
 pub mod ask;
 pub mod change;
+pub mod image;
 pub mod list;
 pub mod order;
 pub mod reason;

@@ -4,6 +4,7 @@
 
 pub mod ask;
 pub mod change;
+pub mod image;
 pub mod list;
 pub mod order;
 pub mod reason;

@@ -8,13 +8,15 @@ use mathlib.Core.Logic.{◌↔◌}
 use Rattle.std.specs.Prelude.{Option, None, Some}
 use Rattle.tree.specs.declared.Plan.{Plan}
 use Rattle.tree.specs.Tree.{Tree, nothing}
+use Rattle.tree.specs.Shape.{Legal}
 use Rattle.tree.specs.Asking.{owned_by, owner_or_rest}
 use Rattle.tree.specs.Calls.{Call, open_line, close_line, Answer, refusal, reply, carried_out, answer_unless, answer, after}
-use Rattle.tree.specs.Lists.{Entry, calls_of, reference_from, reference, answered_from}
-use Rattle.tree.specs.Demand3.{Demand3}
+use Rattle.tree.specs.Lists.{Entry, calls_of, ledger_of, ledger_after, reference_from, answered_from}
+use Rattle.tree.specs.Demand3.{Demand3From, Demand3}
 use Rattle.tree.specs.Record.{tree_of, record_of}
 use Rattle.tree.proofs.Resting.{owned_exactly}
-use Rattle.tree.proofs.Demand3.{demand_3}
+use Rattle.tree.proofs.Demand3.{demand_3_from}
+use Rattle.bridge.proofs.TreeOfRecord.{tree_of_legal}
 use Rattle.plan.specs.declared.ask.OwnerAnswer.{OwnerAnswer}
 use Rattle.plan.specs.declared.ask.OwnerAnswer.TheVariants.{Line, Idle}
 use Rattle.plan.specs.Ask.{owner_answer}
@@ -57,15 +59,17 @@ ran_from (x ∷ xs) first last ran =
 -- Demand 3
 
 -- the claim holds of what has the answers and the tree of the rules
-pub rules_demand_3 : (entries : List Entry) (t : Tree) → ByTheRules nothing entries t → Demand3 entries t
-unfolding reference
-rules_demand_3 entries t rules =
-    subst (λ (xs : List Entry). Demand3 xs t) (sym rules.answers) (rw rules.tree (demand_3 (calls_of entries)))
+pub rules_demand_3 : (first : Tree) → Legal first → (entries : List Entry) (t : Tree) → ByTheRules first entries t → Demand3From first entries t
+rules_demand_3 first legal entries t rules =
+    subst (λ (xs : List Entry). Demand3From first xs t) (sym rules.answers) (rw rules.tree (demand_3_from first legal (calls_of entries)))
+
+-- of every list, on whatever plan record it is run
+pub demand_3_from_plan : (entries : List Entry) (first last : Plan) → Ran first entries last → Demand3From (tree_of first) entries (tree_of last)
+demand_3_from_plan entries first last ran = rules_demand_3 (tree_of first) (tree_of_legal first) entries (tree_of last) (ran_from entries first last ran)
 
 pub demand_3_of_calls : Demand3OfCalls
-unfolding Demand3OfCalls
-demand_3_of_calls entries plan ran =
-    rules_demand_3 entries (tree_of plan) (rw empty_tree at (ran_from entries empty_plan plan ran))
+unfolding Demand3OfCalls Demand3
+demand_3_of_calls entries plan ran = rw empty_tree at (demand_3_from_plan entries empty_plan plan ran)
 
 -- The owner call
 
@@ -76,14 +80,15 @@ line_named (Line n) L = (λ e. cc, λ e. cc)
 line_named (Idle g) L = (λ e. ap owner_answer e, λ e. let z : ◌≡◌ {A = ℕ} 0 1 = cc in absurd (omega arith))
 
 -- where the claim holds, the owner call names the owner
-pub demand_3_names_owner : (entries : List Entry) (t : Tree) → Demand3 entries t → (round : ℕ) (a : OwnerAnswer) → owner_answer a ≡ owner_or_rest round t → NamesOwner entries round a
+pub demand_3_names_owner : (first : Tree) (entries : List Entry) (t : Tree) → Demand3From first entries t →
+    (round : ℕ) (a : OwnerAnswer) → owner_answer a ≡ owner_or_rest round t → NamesOwner (ledger_after first entries) round a
 unfolding NamesOwner
-demand_3_names_owner entries t claim round a asked L =
+demand_3_names_owner first entries t claim round a asked L =
     let named = line_named a L in
     let answered = owned_exactly round t L in
     let owned = claim.ownership round L in
     (λ e. owned.0 (answered.0 (sym asked ∙ named.0 e)), λ fits. named.1 (asked ∙ answered.1 (owned.1 fits)))
 
 pub owner_of_calls : OwnerOfCalls
-unfolding OwnerOfCalls Demand3OfCalls
-owner_of_calls entries plan ran = demand_3_names_owner entries (tree_of plan) (demand_3_of_calls entries plan ran)
+unfolding OwnerOfCalls Demand3OfCalls Demand3 ledger_of
+owner_of_calls entries plan ran = demand_3_names_owner nothing entries (tree_of plan) (demand_3_of_calls entries plan ran)

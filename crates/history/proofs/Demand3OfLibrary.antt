@@ -9,9 +9,11 @@ use Rattle.std.specs.Prelude.{Option, None, Some}
 use lib.IntN.{ℤ, pos, neg_ℤ}
 use lib.ListN.{replicate}
 use Rattle.tree.specs.declared.Plan.{Plan}
-use Rattle.tree.specs.Tree.{Tree}
+use Rattle.tree.specs.Tree.{Tree, nothing}
 use Rattle.tree.specs.Asking.{OwnerOrRest, owned_by, idle_for, owner_or_rest}
 use Rattle.tree.specs.Calls.{Call, open_line, close_line, refused, refusal, reply, answer_unless, answer, gives}
+use Rattle.tree.specs.Lists.{Entry, ledger_of, ledger_after}
+use Rattle.tree.specs.Demand3.{Demand3From, Demand3}
 use Rattle.tree.proofs.Numbering.{owner_below_64}
 use Rattle.tree.proofs.Resting.{owned_exactly}
 use Rattle.bridge.specs.Rows.{tree_of_rows, CarriedOut}
@@ -22,7 +24,7 @@ use Rattle.lists.proofs.AnswersFit.{Small, refusal_small}
 use Rattle.gaplinte.specs.Answer.{answer_number}
 use Rattle.gaplinte.specs.Served.{change_outcome, ChangeServed, owner_value, owner_outcome}
 use Rattle.history.specs.RanOnRows.{RanOnRows, Demand3OfRows}
-use Rattle.history.specs.RanInLibrary.{Answered, answer_told, entries_told, RanInLibrary, Demand3OfLibrary, OwnerOfLibrary, RestOfLibrary}
+use Rattle.history.specs.RanInLibrary.{Answered, answer_told, entries_told, RanInLibrary, Demand3OfLibrary, NumberNamesOwner, OwnerOfLibrary, NumberTellsRest, RestOfLibrary}
 use Rattle.history.proofs.Demand3OfRows.{demand_3_of_rows}
 use Rattle.history.proofs.RestOfCalls.{rest_by_ledger}
 
@@ -53,7 +55,7 @@ served_is_carried_out c before after r served =
 
 -- Along a list
 
-ran_on_rows : (calls : List Answered) (first last : List ℕ) → RanInLibrary first calls last → RanOnRows first (entries_told calls) last
+pub ran_on_rows : (calls : List Answered) (first last : List ℕ) → RanInLibrary first calls last → RanOnRows first (entries_told calls) last
 unfolding RanInLibrary RanOnRows entries_told
 ran_on_rows [] first last ran = ran
 ran_on_rows (x ∷ xs) first last ran =
@@ -88,16 +90,26 @@ unfolding answer_number owner_value
 rest_is_told (owned_by M) below g told = let idle : M ≡ 64 + g = cc in absurd (omega (arith, below M refl))
 rest_is_told (idle_for h) below g told = let same : 64 + h ≡ 64 + g = cc in ap idle_for (omega arith)
 
+-- where demand 3 holds of a list and the record that it left
+module _ (first : Tree) (entries : List Entry) (rows : List ℕ) (claim : Demand3From first entries (tree_of_rows rows)) where
+  pub number_names_owner : (round : ℕ) (r : ℤ) → r ≡ answer_number (owner_outcome round rows) → NumberNamesOwner (ledger_after first entries) round r
+  unfolding NumberNamesOwner owner_outcome
+  number_names_owner round r asked L =
+      let named = line_is_told (owner_or_rest round (tree_of_rows rows)) (line_below round rows) L in
+      let answered = owned_exactly round (tree_of_rows rows) L in
+      let owned = claim.ownership round L in
+      (λ told. owned.0 (answered.0 (named.0 (sym asked ∙ told.0, told.1))), λ fits. let line = named.1 (answered.1 (owned.1 fits)) in (asked ∙ line.0, line.1))
+
+  pub number_tells_rest : (round : ℕ) (r : ℤ) → r ≡ answer_number (owner_outcome round rows) → NumberTellsRest (ledger_after first entries) round r
+  unfolding NumberTellsRest owner_outcome
+  number_tells_rest round r asked g told =
+      rest_by_ledger first entries (tree_of_rows rows) (legal_on_record rows) claim round g
+      (rest_is_told (owner_or_rest round (tree_of_rows rows)) (line_below round rows) g (sym asked ∙ told))
+
 pub owner_of_library : OwnerOfLibrary
-unfolding OwnerOfLibrary Demand3OfLibrary owner_outcome
-owner_of_library calls rows ran round r asked L =
-    let named = line_is_told (owner_or_rest round (tree_of_rows rows)) (line_below round rows) L in
-    let answered = owned_exactly round (tree_of_rows rows) L in
-    let owned = (demand_3_of_library calls rows ran).ownership round L in
-    (λ told. owned.0 (answered.0 (named.0 (sym asked ∙ told.0, told.1))), λ fits. let line = named.1 (answered.1 (owned.1 fits)) in (asked ∙ line.0, line.1))
+unfolding OwnerOfLibrary Demand3OfLibrary Demand3 ledger_of
+owner_of_library calls rows ran = number_names_owner nothing (entries_told calls) rows (demand_3_of_library calls rows ran)
 
 pub rest_of_library : RestOfLibrary
-unfolding RestOfLibrary Demand3OfLibrary owner_outcome
-rest_of_library calls rows ran round r asked g told =
-    rest_by_ledger (entries_told calls) (tree_of_rows rows) (legal_on_record rows) (demand_3_of_library calls rows ran) round g
-    (rest_is_told (owner_or_rest round (tree_of_rows rows)) (line_below round rows) g (sym asked ∙ told))
+unfolding RestOfLibrary Demand3OfLibrary Demand3 ledger_of
+rest_of_library calls rows ran = number_tells_rest nothing (entries_told calls) rows (demand_3_of_library calls rows ran)

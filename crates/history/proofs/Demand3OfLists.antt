@@ -1,4 +1,4 @@
--- Demand 3 of a list of orders run on the empty plan (specs/OrdersRun.antt): the orders that can be read have the answers and the tree of the rules.
+-- Demand 3 of a list of orders run on a plan (specs/OrdersRun.antt): the orders that can be read have the answers and the tree of the rules.
 -- Assumes nothing.
 use Rattle.std.specs.Prelude.{if◌then◌else◌}
 use Prim.Native.Nat.{ℕ}
@@ -7,13 +7,13 @@ use mathlib.Core.Path.{◌≡◌, refl, sym, ◌∙◌, ap}
 use mathlib.Core.Bool.{Bool, true, false}
 use mathlib.Core.List.{List, [], ◌∷◌}
 use Rattle.tree.specs.declared.Plan.{Plan}
-use Rattle.tree.specs.Tree.{Tree, nothing}
+use Rattle.tree.specs.Tree.{Tree}
 use Rattle.tree.specs.Shape.{Legal}
 use Rattle.tree.specs.Calls.{Call, answer, after, Outcome, gives, refuses}
-use Rattle.tree.specs.Lists.{all_closed, Entry, calls_of, reference_from, answered_from}
-use Rattle.tree.specs.Demand3.{Demand3}
+use Rattle.tree.specs.Lists.{ledger_of_tree, Entry, calls_of, reference_from, answered_from}
+use Rattle.tree.specs.Demand3.{Demand3From}
 use Rattle.tree.specs.Record.{tree_of, record_of}
-use Rattle.tree.proofs.Agreement.{agree_at_first, agree_along}
+use Rattle.tree.proofs.Agreement.{agree_of_tree, agree_along}
 use Rattle.bridge.proofs.TreeOfRecord.{tree_of_legal}
 use Rattle.bridge.proofs.RecordRoundTrip.{record_has_tree}
 use Rattle.orders.specs.Reading.{reading}
@@ -23,10 +23,9 @@ use Rattle.lists.specs.Runs.{bytes_after, plan_run, plan_after_list, bytes_after
 use Rattle.lists.proofs.TreeLeftAlone.{list_left_alone}
 use Rattle.plan.specs.Meets.{empty_plan}
 use Rattle.plan.proofs.Changes.{empty_tree}
-use Rattle.history.specs.OrdersRun.{OrdersAnswered, no_order, can_be_read, cannot_be_read, Demand3OfLists}
-use Rattle.history.proofs.Demand3OfCalls.{ByTheRules, rules_demand_3, demand_3_names_owner}
-use Rattle.history.proofs.RestOfCalls.{demand_3_tells_rest}
-use Rattle.history.proofs.SheetOfCalls.{demand_3_sheet}
+use Rattle.history.specs.OrdersRun.{OrdersAnswered, no_order, can_be_read, cannot_be_read, FromPlanOfLists, Demand3OfLists}
+use Rattle.history.proofs.Demand3OfCalls.{ByTheRules, rules_demand_3}
+use Rattle.history.proofs.FromPlan.{demand_3_claims}
 
 -- The orders that can be read
 
@@ -77,34 +76,35 @@ run_tree plan ns legal = by_test (some_carried (list_answers (tree_of plan) ns))
 
 -- Demand 3
 
-pub demand_3_of_lists : Demand3OfLists
-unfolding Demand3OfLists plan_after_list bytes_after_list bytes_after
-demand_3_of_lists orders lent left written ran =
+pub from_plan_of_lists : FromPlanOfLists
+unfolding FromPlanOfLists plan_after_list bytes_after_list bytes_after
+from_plan_of_lists first orders lent left written ran =
     record {
       entries = run.entries;
-      answers = list_answers nothing ns;
+      answers = list_answers t ns;
       answered = run.answered;
-      bytes_are = rw (sym ran.refusal_is, empty_tree) at ran.bytes_are;
-      demand_3 = claim;
-      owner_named = demand_3_names_owner run.entries (tree_of left) claim;
-      rest_told = demand_3_tells_rest run.entries (tree_of left) (tree_of_legal left) claim;
-      sheet_for = demand_3_sheet run.entries (tree_of left) (tree_of_legal left) claim;
+      bytes_are = rw (sym ran.refusal_is) at ran.bytes_are;
+      claims = demand_3_claims t run.entries (tree_of left) (tree_of_legal left) claim;
     }
   where
     ns : List ℕ
     ns = orders_of orders
 
-    run : OrdersByTheRules ns nothing
-    run = orders_by_the_rules ns nothing
+    t : Tree
+    t = tree_of first
 
-    legal : Legal (list_after nothing ns)
-    legal = rw run.rules.tree (agree_along (calls_of run.entries) all_closed nothing agree_at_first).legal
+    run : OrdersByTheRules ns t
+    run = orders_by_the_rules ns t
 
-    plan_is : left ≡ plan_run empty_plan ns
+    legal : Legal (list_after t ns)
+    legal = rw run.rules.tree (agree_along (calls_of run.entries) (ledger_of_tree t) t (agree_of_tree t (tree_of_legal first))).legal
+
+    plan_is : left ≡ plan_run first ns
     plan_is = rw (sym ran.refusal_is) at ran.plan_is
 
-    tree_is : tree_of left ≡ list_after nothing ns
-    tree_is = ap tree_of plan_is ∙ run_tree empty_plan ns (rw empty_tree legal) ∙ ap (λ (t : Tree). list_after t ns) empty_tree
+    claim : Demand3From t run.entries (tree_of left)
+    claim = rw (ap tree_of plan_is ∙ run_tree first ns legal) (rules_demand_3 t (tree_of_legal first) run.entries (list_after t ns) run.rules)
 
-    claim : Demand3 run.entries (tree_of left)
-    claim = rw tree_is (rules_demand_3 run.entries (list_after nothing ns) run.rules)
+pub demand_3_of_lists : Demand3OfLists
+unfolding Demand3OfLists FromPlanOfLists
+demand_3_of_lists orders lent left written ran = rw empty_tree at (from_plan_of_lists empty_plan orders lent left written ran)

@@ -11,7 +11,7 @@ use Rattle.history.specs.Ran.{Ran, Demand3OfCalls, OwnerOfCalls}
 use Rattle.history.specs.RanOnRows.{RanOnRows, Demand3OfRows, OwnerOfRows}
 use Rattle.history.proofs.Demand3OfCalls.{returned_is_handed_on, demand_3_of_calls, owner_of_calls}
 
-ran_by_value : (entries : List Entry) (first last : List ℕ) → RanOnRows first entries last → Ran (record { rows = first }) entries (record { rows = last })
+pub ran_by_value : (entries : List Entry) (first last : List ℕ) → RanOnRows first entries last → Ran (record { rows = first }) entries (record { rows = last })
 unfolding Ran RanOnRows
 ran_by_value [] first last ran = λ i. record { rows = ran i }
 ran_by_value (x ∷ xs) first last ran =

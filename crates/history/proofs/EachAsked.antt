@@ -48,11 +48,13 @@ refusal_12 refusal.LineNotOpen = refl
 refusal_12 refusal.NoRoom = refl
 refusal_12 refusal.NoOrder = refl
 refusal_12 refusal.ListLength = refl
-refusal_12 refusal.AnswersTooShort = refl
+refusal_12 refusal.BufferTooShort = refl
 refusal_12 refusal.WalkerAtEnd = refl
 refusal_12 refusal.NoNode = refl
 refusal_12 refusal.NoClass = refl
 refusal_12 refusal.NoLineInClass = refl
+refusal_12 refusal.ImageLength = refl
+refusal_12 refusal.ImageField = refl
 
 -- At one node
 

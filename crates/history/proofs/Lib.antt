@@ -3,8 +3,10 @@ pub mod Demand3OfRows
 pub mod RestOfCalls
 pub mod Demand3OfLibrary
 pub mod SheetOfCalls
+pub mod FromPlan
 pub mod TriedInLibrary
 pub mod Demand3OfLists
+pub mod FromImage
 pub mod Replaying
 pub mod Explained
 pub mod EachAsked

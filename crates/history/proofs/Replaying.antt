@@ -22,7 +22,7 @@ use Rattle.bridge.specs.Rows.{tree_of_rows, rows_after, CarriedOut}
 use Rattle.bridge.proofs.PeriodAsked.{period_stands_for}
 use Rattle.plan.specs.declared.ask.OwnerAnswer.{OwnerAnswer}
 use Rattle.plan.specs.Ask.{owner_answer}
-use Rattle.plan.specs.Meets.{empty_plan, Meets}
+use Rattle.plan.specs.Meets.{Meets}
 use Rattle.plan.proofs.Changes.{carried_meets}
 use Rattle.history.specs.Ran.{handed_on, Ran, OwnerOfCalls, RestOfCalls}
 use Rattle.history.specs.Replay.{call_at, first_calls, answer_number, answer_numbers, RanFirst, Replays, ReplaysAndOwns, ReplaysAndAddsUp}
@@ -61,14 +61,14 @@ unfolding first_calls
 first_calls_length numbers zero = refl
 first_calls_length numbers (suc n) = omega (arith, length-append (first_calls numbers n) (call_at numbers n ∷ []), first_calls_length numbers n)
 
-module _ (numbers before : List ℕ) where
-  pub no_call_run : RanFirst numbers before before 0 empty_plan
+module _ (at_first : Plan) (numbers before : List ℕ) where
+  pub no_call_run : RanFirst at_first numbers before before 0 at_first
   unfolding Ran calls_of first_calls answer_numbers
   no_call_run = record { entries = []; calls_are = refl; answers_are = refl; ran = refl }
 
   pub one_more_run : (after : List ℕ) (i : ℕ) (plan : Plan) (a : Answer) (next : Plan) →
-      RanFirst numbers before after i plan → i < length before → Meets (call_at numbers i) plan a next →
-      RanFirst numbers before (set after i (answer_number a)) (i + 1) next
+      RanFirst at_first numbers before after i plan → i < length before → Meets (call_at numbers i) plan a next →
+      RanFirst at_first numbers before (set after i (answer_number a)) (i + 1) next
   unfolding first_calls
   one_more_run after i plan a next so_far below meets =
       let xs = so_far.entries in
@@ -82,7 +82,7 @@ module _ (numbers before : List ℕ) where
             rw (so_far.answers_are, numbers_mapped (xs ++ (x ∷ [])), map-append number_in xs (x ∷ []), numbers_mapped xs, drop-cons before i 0 below, add-one i)
             (set_at (map number_in xs) (get_or before i 0) (drop (suc i) before) (answer_number a) i at_seam
             ∙ sym (append_assoc (map number_in xs) (answer_number a ∷ []) (drop (suc i) before)));
-        ran = ran_more x xs empty_plan plan next so_far.ran meets;
+        ran = ran_more x xs at_first plan next so_far.ran meets;
       }
 
 -- The owner call and the sheet call on the plan that was left

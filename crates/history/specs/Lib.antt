@@ -2,8 +2,10 @@ pub mod Ran
 pub mod RanOnRows
 pub mod RanInLibrary
 pub mod Sheets
+pub mod FromPlan
 pub mod TriedInLibrary
 pub mod OrdersRun
 pub mod Replay
+pub mod FromImage
 pub mod Explained
 pub mod Asked

@@ -6,7 +6,7 @@ use Rattle.std.specs.Prelude.{ℕ, ◌+◌, ◌<◌, ◌≤◌, ◌≡◌, ◌�
 use Rattle.tree.specs.declared.Plan.{Plan}
 use Rattle.tree.specs.Calls.{Answer, booked, done, refused}
 use Rattle.tree.specs.Asking.{owner_or_rest}
-use Rattle.tree.specs.Lists.{Booking, Entry, ledger_of, RoundFits}
+use Rattle.tree.specs.Lists.{Booking, Ledger, Entry, ledger_of, RoundFits}
 use Rattle.tree.specs.Demand3.{SomeOpen, Demand3}
 use Rattle.tree.specs.Record.{tree_of}
 use Rattle.plan.specs.declared.ask.OwnerAnswer.{OwnerAnswer}
@@ -31,31 +31,31 @@ unfoldable pub Demand3OfCalls : Type 0
 Demand3OfCalls = (entries : List Entry) (plan : Plan) → Ran empty_plan entries plan → Demand3 entries (tree_of plan)
 
 -- An answer of the owner call names line L exactly when the ledger has L open and the round fits it.
-unfoldable pub NamesOwner : List Entry → ℕ → OwnerAnswer → Type 0
-NamesOwner entries round a = (L : ℕ) → (a ≡ Line L) ↔ ((b : Booking) × (ledger_of entries L ≡ Some b) × RoundFits round b)
+unfoldable pub NamesOwner : Ledger → ℕ → OwnerAnswer → Type 0
+NamesOwner ledger round a = (L : ℕ) → (a ≡ Line L) ↔ ((b : Booking) × (ledger L ≡ Some b) × RoundFits round b)
 
 -- (The lists of demand 3, 19) The owner call is put to the plan that the list leaves: so it is with each answer that its contract allows.
 unfoldable pub OwnerOfCalls : Type 0
 OwnerOfCalls =
     (entries : List Entry) (plan : Plan) → Ran empty_plan entries plan →
-    (round : ℕ) (a : OwnerAnswer) → owner_answer a ≡ owner_or_rest round (tree_of plan) → NamesOwner entries round a
+    (round : ℕ) (a : OwnerAnswer) → owner_answer a ≡ owner_or_rest round (tree_of plan) → NamesOwner (ledger_of entries) round a
 
 -- (Ask 4, 2, 3) By the ledger, g rounds lie from the round to the next owned one.
-pub record RestsFor (entries : List Entry) (round g : ℕ) : Type 0 where
+pub record RestsFor (ledger : Ledger) (round g : ℕ) : Type 0 where
   -- 0 exactly when no line is open
-  pub zero_exactly : (g ≡ 0) ↔ (SomeOpen (ledger_of entries) → ⊥)
+  pub zero_exactly : (g ≡ 0) ↔ (SomeOpen ledger → ⊥)
   -- where one is, the round after so many fits an open line
-  pub next_owned : SomeOpen (ledger_of entries) → (L : ℕ) × (b : Booking) × (ledger_of entries L ≡ Some b) × RoundFits (round + g) b
+  pub next_owned : SomeOpen ledger → (L : ℕ) × (b : Booking) × (ledger L ≡ Some b) × RoundFits (round + g) b
   -- and no round before that one does
-  pub none_before : (k : ℕ) → k < g → (L : ℕ) (b : Booking) → ledger_of entries L ≡ Some b → RoundFits (round + k) b → ⊥
+  pub none_before : (k : ℕ) → k < g → (L : ℕ) (b : Booking) → ledger L ≡ Some b → RoundFits (round + k) b → ⊥
   pub at_most : g ≤ 4094
 
 -- An idle answer of the owner call tells that rest.
-unfoldable pub TellsRest : List Entry → ℕ → OwnerAnswer → Type 0
-TellsRest entries round a = (g : ℕ) → a ≡ Idle g → RestsFor entries round g
+unfoldable pub TellsRest : Ledger → ℕ → OwnerAnswer → Type 0
+TellsRest ledger round a = (g : ℕ) → a ≡ Idle g → RestsFor ledger round g
 
 -- (Ask 4, 4) So it is with each answer of the owner call that its contract allows, put to the plan that the list leaves.
 unfoldable pub RestOfCalls : Type 0
 RestOfCalls =
     (entries : List Entry) (plan : Plan) → Ran empty_plan entries plan →
-    (round : ℕ) (a : OwnerAnswer) → owner_answer a ≡ owner_or_rest round (tree_of plan) → TellsRest entries round a
+    (round : ℕ) (a : OwnerAnswer) → owner_answer a ≡ owner_or_rest round (tree_of plan) → TellsRest (ledger_of entries) round a

@@ -3,7 +3,7 @@
 -- Assumes nothing.
 use Rattle.std.specs.Prelude.{ℕ, suc, ◌+◌, ◌≤◌, ◌≡◌, ◌↔◌, List, [], ◌∷◌, ℤ, pos, negsuc, replicate, Some}
 use Rattle.tree.specs.Calls.{Call, open_line, close_line, Answer, booked, done, refused}
-use Rattle.tree.specs.Lists.{Booking, Entry, ledger_of, RoundFits}
+use Rattle.tree.specs.Lists.{Booking, Ledger, Entry, ledger_of, RoundFits}
 use Rattle.tree.specs.Demand3.{Demand3}
 use Rattle.bridge.specs.Rows.{tree_of_rows}
 use Rattle.gaplinte.specs.Answer.{answer_number}
@@ -37,16 +37,23 @@ RanInLibrary first (x ∷ xs) last =
 unfoldable pub Demand3OfLibrary : Type 0
 Demand3OfLibrary = (calls : List Answered) (rows : List ℕ) → RanInLibrary (replicate 1408 0) calls rows → Demand3 (entries_told calls) (tree_of_rows rows)
 
--- (The lists of demand 3, 19) The owner call is put to the record that the list leaves: its number names line L exactly when the ledger has L open and the round fits it.
+-- A number of the owner call names line L exactly when the ledger has L open and the round fits it.
 -- 64 and more, the numbers for an idle round, name no line.
+unfoldable pub NumberNamesOwner : Ledger → ℕ → ℤ → Type 0
+NumberNamesOwner ledger round r = (L : ℕ) → ((r ≡ pos L) × (L ≤ 63)) ↔ ((b : Booking) × (ledger L ≡ Some b) × RoundFits round b)
+
+-- (The lists of demand 3, 19) The owner call is put to the record that the list leaves, and its number names the owner.
 unfoldable pub OwnerOfLibrary : Type 0
 OwnerOfLibrary =
     (calls : List Answered) (rows : List ℕ) → RanInLibrary (replicate 1408 0) calls rows →
-    (round : ℕ) (r : ℤ) → r ≡ answer_number (owner_outcome round rows) →
-    (L : ℕ) → ((r ≡ pos L) × (L ≤ 63)) ↔ ((b : Booking) × (ledger_of (entries_told calls) L ≡ Some b) × RoundFits round b)
+    (round : ℕ) (r : ℤ) → r ≡ answer_number (owner_outcome round rows) → NumberNamesOwner (ledger_of (entries_told calls)) round r
 
--- (Ask 4, 4) And where its number is 64 or more, that number less 64 is the rest.
+-- Where the number is 64 or more, that number less 64 is the rest.
+unfoldable pub NumberTellsRest : Ledger → ℕ → ℤ → Type 0
+NumberTellsRest ledger round r = (g : ℕ) → r ≡ pos (64 + g) → RestsFor ledger round g
+
+-- (Ask 4, 4) And so is that call's number.
 unfoldable pub RestOfLibrary : Type 0
 RestOfLibrary =
     (calls : List Answered) (rows : List ℕ) → RanInLibrary (replicate 1408 0) calls rows →
-    (round : ℕ) (r : ℤ) → r ≡ answer_number (owner_outcome round rows) → (g : ℕ) → r ≡ pos (64 + g) → RestsFor (entries_told calls) round g
+    (round : ℕ) (r : ℤ) → r ≡ answer_number (owner_outcome round rows) → NumberTellsRest (ledger_of (entries_told calls)) round r

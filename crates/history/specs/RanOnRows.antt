@@ -3,7 +3,7 @@
 -- Assumes nothing.
 use Rattle.std.specs.Prelude.{ℕ, ◌≡◌, List, [], ◌∷◌}
 use Rattle.tree.specs.Asking.{owner_or_rest}
-use Rattle.tree.specs.Lists.{Entry}
+use Rattle.tree.specs.Lists.{Entry, ledger_of}
 use Rattle.tree.specs.Demand3.{Demand3}
 use Rattle.bridge.specs.Rows.{tree_of_rows, CarriedOut}
 use Rattle.plan.specs.declared.ask.OwnerAnswer.{OwnerAnswer}
@@ -26,10 +26,10 @@ Demand3OfRows = (entries : List Entry) (rows : List ℕ) → RanOnRows empty_pla
 unfoldable pub OwnerOfRows : Type 0
 OwnerOfRows =
     (entries : List Entry) (rows : List ℕ) → RanOnRows empty_plan.rows entries rows →
-    (round : ℕ) (a : OwnerAnswer) → owner_answer a ≡ owner_or_rest round (tree_of_rows rows) → NamesOwner entries round a
+    (round : ℕ) (a : OwnerAnswer) → owner_answer a ≡ owner_or_rest round (tree_of_rows rows) → NamesOwner (ledger_of entries) round a
 
 -- (Ask 4, 4) and tells the rest where it is idle
 unfoldable pub RestOfRows : Type 0
 RestOfRows =
     (entries : List Entry) (rows : List ℕ) → RanOnRows empty_plan.rows entries rows →
-    (round : ℕ) (a : OwnerAnswer) → owner_answer a ≡ owner_or_rest round (tree_of_rows rows) → TellsRest entries round a
+    (round : ℕ) (a : OwnerAnswer) → owner_answer a ≡ owner_or_rest round (tree_of_rows rows) → TellsRest (ledger_of entries) round a

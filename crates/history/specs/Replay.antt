@@ -4,13 +4,14 @@ use Rattle.std.specs.Prelude.{ℕ, zero, suc, ◌+◌, ◌*◌, ◌/◌, min, �
 use Rattle.tree.specs.declared.Plan.{Plan}
 use Rattle.tree.specs.declared.Sheet.{Sheet}
 use Rattle.tree.specs.Calls.{Call, open_line, close_line, Answer, booked, done, refused}
-use Rattle.tree.specs.Lists.{Entry, calls_of}
+use Rattle.tree.specs.Lists.{Entry, calls_of, ledger_of}
 use Rattle.tree.specs.Demand3.{Demand3}
 use Rattle.tree.specs.Record.{tree_of}
 use Rattle.plan.specs.declared.ask.OwnerAnswer.{OwnerAnswer}
 use Rattle.plan.specs.Meets.{empty_plan}
 use Rattle.history.specs.Ran.{Ran, NamesOwner, TellsRest}
 use Rattle.history.specs.Sheets.{SheetFor}
+use Rattle.history.specs.FromPlan.{ClaimsFrom}
 
 -- Three numbers to a call: kind, line and period, of any size. Kind 0 opens; every other kind closes, and its period is not looked at.
 unfoldable pub call_of : ℕ → ℕ → ℕ → Call
@@ -34,17 +35,23 @@ unfoldable pub answer_numbers : List Entry → List ℕ
 answer_numbers [] = []
 answer_numbers (x ∷ xs) = answer_number x.answer ∷ answer_numbers xs
 
--- The first `count` calls were run from the empty plan and left `plan`; their answers stand in front in the buffer, which is as it was behind them.
-pub record RanFirst (numbers before after : List ℕ) (count : ℕ) (plan : Plan) : Type 0 where
+-- The first `count` calls were run from the plan `at_first` and left `plan`; their answers stand in front in the buffer, which is as it was behind them.
+pub record RanFirst (at_first : Plan) (numbers before after : List ℕ) (count : ℕ) (plan : Plan) : Type 0 where
   pub entries : List Entry
   pub calls_are : calls_of entries ≡ first_calls numbers count
   pub answers_are : after ≡ answer_numbers entries ++ drop count before
-  pub ran : Ran empty_plan entries plan
+  pub ran : Ran at_first entries plan
 
--- All calls were run that are whole and have room for their answer, and demand 3 holds of them and of the plan that they left.
+-- All calls were run that are whole and have room for their answer, from the plan `at_first`, and the claim holds of them and of the plan that they left.
+pub record ReplaysFrom (at_first : Plan) (numbers before after : List ℕ) (count : ℕ) (plan : Plan) : Type 0 where
+  pub count_is : count ≡ min (length numbers / 3) (length before)
+  pub first : RanFirst at_first numbers before after count plan
+  pub claims : ClaimsFrom (tree_of at_first) first.entries (tree_of plan)
+
+-- From the empty plan: demand 3 holds of them and of the plan that they left.
 pub record Replays (numbers before after : List ℕ) (count : ℕ) (plan : Plan) : Type 0 where
   pub count_is : count ≡ min (length numbers / 3) (length before)
-  pub first : RanFirst numbers before after count plan
+  pub first : RanFirst empty_plan numbers before after count plan
   pub demand_3 : Demand3 first.entries (tree_of plan)
 
 -- The same, and then the owner call was put to the plan that was left.
@@ -52,12 +59,12 @@ pub record ReplaysAndOwns (numbers before after : List ℕ) (round : ℕ) (a : O
   pub count : ℕ
   pub plan : Plan
   pub replays : Replays numbers before after count plan
-  pub names_owner : NamesOwner replays.first.entries round a
-  pub tells_rest : TellsRest replays.first.entries round a
+  pub names_owner : NamesOwner (ledger_of replays.first.entries) round a
+  pub tells_rest : TellsRest (ledger_of replays.first.entries) round a
 
 -- The same, and then the sheet call: its figures are those of the ledger, and they add up.
 pub record ReplaysAndAddsUp (numbers before after : List ℕ) (a N : ℕ) (s : Sheet) : Type 0 where
   pub count : ℕ
   pub plan : Plan
   pub replays : Replays numbers before after count plan
-  pub sheet_for : SheetFor replays.first.entries a N s
+  pub sheet_for : SheetFor (ledger_of replays.first.entries) a N s

@@ -4,7 +4,8 @@
 ghost use Rattle.std.specs.Prelude.{◌≡◌};
 ghost use Rattle.lists.specs.Runs.{answer_in};
 ghost use Rattle.plan.specs.Meets.{Meets};
-ghost use Rattle.history.specs.Replay.{call_of, answer_number, Replays, ReplaysAndOwns, ReplaysAndAddsUp};
+ghost use Rattle.history.specs.FromImage.{ReplaysImage};
+ghost use Rattle.history.specs.Replay.{call_of, answer_number, ReplaysFrom, Replays, ReplaysAndOwns, ReplaysAndAddsUp};
 
 pub mod asked;
 
@@ -54,14 +55,14 @@ fn number(answer: Result<Option<Start>, Refusal>) -> u64
     }
 }
 
-// Runs the calls of the lent list from an empty plan, as far as they are whole and the lent buffer has room, and writes one number for each answer.
+// Runs the calls of the lent list on a plan, as far as they are whole and the lent buffer has room, and writes one number for each answer.
 // A call is three numbers and not a type of its own, since every kind but 0 is a close: a type would ask more of callers.
 // Calls and answers go by index, since of a slice that `iter_mut` lent no proof knows what it holds afterwards.
-pub fn replay(calls: &[u64], answers: &mut [u64]) -> Replayed
-    ensures { Replays calls.now answers.old answers.new result.count result.plan }
+pub fn replay_from(first: Plan, calls: &[u64], answers: &mut [u64]) -> Replayed
+    ensures { ReplaysFrom first calls.now answers.old answers.new result.count result.plan }
 {
     let count = (calls.len() / 3).min(answers.len());
-    let mut plan = plan::change::empty();
+    let mut plan = first;
     for i in 0..count {
         let at = 3 * i;
         let changed = run_call(plan, calls[at], calls[at + 1], calls[at + 2]);
@@ -69,6 +70,22 @@ pub fn replay(calls: &[u64], answers: &mut [u64]) -> Replayed
         plan = changed.plan;
     }
     Replayed { count, plan }
+}
+
+// Runs them from an empty plan.
+pub fn replay(calls: &[u64], answers: &mut [u64]) -> Replayed
+    ensures { Replays calls.now answers.old answers.new result.count result.plan }
+{
+    replay_from(plan::change::empty(), calls, answers)
+}
+
+// Reads an image, and runs them on the plan that it gives. Refused as reading is, and then nothing is run or written.
+pub fn replay_image(image: &[u8], calls: &[u64], answers: &mut [u64]) -> Result<Replayed, Refusal>
+    ensures { ReplaysImage image.now calls.now answers.old answers.new result }
+{
+    let read = plan::image::read_image(plan::change::empty(), image);
+    read.answer?;
+    Ok(replay_from(read.plan, calls, answers))
 }
 
 // The owner of a round, or its rest, in the plan that the lent list leaves.

@@ -10,7 +10,7 @@ use Rattle.tree.specs.Opening.{divisor, free, free_class, candidate, class_at, s
 use Rattle.tree.specs.Closing.{prune, cleared, of_weight, weight_below, under_edge, joined_with, join, join_times, join_fully, joined_up, closed}
 use Rattle.tree.specs.Refusals.{first_refusal, line_above_63, period_out_of_range, no_room, earlier_checks, open_refusal, line_refusal}
 use Rattle.tree.specs.Calls.{refusal, reply, carried_out, answer_unless, tree_unless, answer, after, gives_unless, show_outcome, turns_outcome}
-use Rattle.orders.specs.Field.{field, joined}
+use Rattle.bits.specs.Field.{field, joined}
 use Rattle.orders.specs.Order.{order_of, kind, line, period, filler}
 use Rattle.orders.specs.Packing.{kind_above_1, close_with_period}
 use Rattle.orders.specs.Reading.{filler_set, reading_refusal, call_of, reading}

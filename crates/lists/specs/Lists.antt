@@ -4,7 +4,7 @@ use Rattle.std.specs.Prelude.{ℕ, ◌*◌, ◌/◌, ◌%◌, Bool, true, false,
 use Rattle.tree.specs.Tree.{Tree}
 use Rattle.tree.specs.Refusals.{refuse, first_refusal}
 use Rattle.tree.specs.Calls.{Call, Answer, booked, done, refused, Outcome, gives, refuses, answer, after}
-use Rattle.orders.specs.Field.{field, joined}
+use Rattle.bits.specs.Field.{field, joined}
 use Rattle.orders.specs.Order.{order_of}
 use Rattle.orders.specs.Reading.{reading}
 

@@ -17,11 +17,6 @@ answer_in (Ok (Some s)) = booked s.0
 answer_in (Ok None) = done
 answer_in (Err r) = refused (number_of r)
 
--- the number with which a list is refused, if it is
-unfoldable pub refusal_in : Result Unit Refusal → Option ℕ
-refusal_in (Ok u) = None
-refusal_in (Err r) = Some (number_of r)
-
 -- one order ran on a legal record: it gave the order's answer and left the record of the order's tree
 pub record OrderRan (n : ℕ) (before after : List ℕ) (a : Answer) : Type 0 where
   pub answer_is : a ≡ order_answer n (tree_of_rows before)

@@ -2,11 +2,12 @@
 #![tactic(auto)]
 
 ghost use Rattle.std.specs.Prelude.{◌≡◌, true, false, ◌+◌, ◌<◌, ◌/◌, [], ◌∷◌, ◌++◌, length, take, drop, None};
+ghost use Rattle.tree.specs.Answered.{refusal_in};
 ghost use Rattle.tree.specs.Record.{legal};
 ghost use Rattle.bridge.specs.Rows.{plan_of};
 ghost use Rattle.orders.specs.Order.{order_of};
 ghost use Rattle.lists.specs.Lists.{orders_of, answer_word, high_byte, low_byte, length_refused, list_refusal};
-ghost use Rattle.lists.specs.Runs.{answer_in, refusal_in, OrderRan, Runnable, OrdersRan, CheckedRan, ListRan};
+ghost use Rattle.lists.specs.Runs.{answer_in, OrderRan, Runnable, OrdersRan, CheckedRan, ListRan};
 
 use orders::{Bytes, Order};
 use tree::changed::Changed;
@@ -79,7 +80,7 @@ fn check_lengths(length: usize, room: usize) -> Result<(), Refusal>
         return Err(Refusal::ListLength);
     }
     if room < 2 * (length / 3) {
-        return Err(Refusal::AnswersTooShort);
+        return Err(Refusal::BufferTooShort);
     }
     Ok(())
 }

@@ -1,5 +1,4 @@
--- Laws of fields and of orders, the round trips, and the proof of each function.
-pub mod FieldLaws
+-- Laws of orders, the round trips, and the proof of each function.
 pub mod OrderLaws
 pub mod PackingChecks
 pub mod ReadingChecks

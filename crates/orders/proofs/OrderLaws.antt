@@ -4,9 +4,9 @@ use Prim.Native.Nat.{ℕ, ◌<◌, ◌^◌}
 use lib.Pow.{pow_pos}
 use mathlib.Core.Path.{◌≡◌, sym, ap, ◌∙◌}
 use Rattle.orders.specs.declared.Bytes.{Bytes}
-use Rattle.orders.specs.Field.{field, joined}
+use Rattle.bits.specs.Field.{field, joined}
 use Rattle.orders.specs.Order.{order_of, bytes_of, kind, line, period, filler, order_with}
-use Rattle.orders.proofs.FieldLaws.{joined_below, lowest_of_joined, higher_of_joined, lowest_of_small, neighbours_joined}
+use Rattle.bits.proofs.FieldLaws.{joined_below, lowest_of_joined, higher_of_joined, lowest_of_small, neighbours_joined}
 
 -- Bytes
 

@@ -11,7 +11,7 @@ use Rattle.orders.specs.declared.Bytes.{Bytes}
 use Rattle.orders.specs.Order.{order_of, bytes_of, kind, line, period, filler, order_with}
 use Rattle.orders.specs.Packing.{packing_refusal, packing}
 use Rattle.orders.specs.Reading.{reading_refusal, reading, call_of, kind_of, line_of, period_of, Readable}
-use Rattle.orders.proofs.FieldLaws.{field_below}
+use Rattle.bits.proofs.FieldLaws.{field_below}
 use Rattle.orders.proofs.OrderLaws.{AreBytes, order_below, bytes_of_order, order_of_bytes, order_with_below, kind_with, line_with, period_with, filler_with, order_with_fields}
 use Rattle.orders.proofs.PackingChecks.{Packable, packs, packed_is_packable}
 use Rattle.orders.proofs.ReadingChecks.{open_read, close_read, read_is_readable}

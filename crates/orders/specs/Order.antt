@@ -3,7 +3,7 @@
 use Rattle.std.specs.Prelude.{ℕ}
 use Rattle.orders.specs.declared.Bytes.{Bytes}
 use Rattle.orders.specs.declared.OrderFields.{OrderFields}
-use Rattle.orders.specs.Field.{field, joined}
+use Rattle.bits.specs.Field.{field, joined}
 
 -- (Orders, 1) the order that three bytes are
 unfoldable pub order_of : Bytes → ℕ

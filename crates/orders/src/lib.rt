@@ -2,13 +2,13 @@
 // An order is a word of 24 bits: kind 2, line 6, period 12 and filler 4 bits, most significant bit first.
 #![tactic(auto)]
 
-ghost use Rattle.std.specs.Prelude.{◌≡◌, ◌<◌, ◌^◌, [], ◌∷◌};
+ghost use Rattle.std.specs.Prelude.{◌≡◌, ◌<◌, [], ◌∷◌};
 ghost use Rattle.tree.specs.Answered.{outcome_of};
-ghost use Rattle.orders.specs.Field.{field, joined};
 ghost use Rattle.orders.specs.Order.{order_of, order_with, bytes_of, fields_of};
 ghost use Rattle.orders.specs.Packing.{packing};
 ghost use Rattle.orders.specs.Reading.{reading, call_told};
 
+use bits::{field_of, join};
 use tree::Period;
 use tree::refusal::Refusal;
 
@@ -49,23 +49,6 @@ pub struct OrderFields {
     pub line: u64,
     pub period: Period,
     pub filler: u64,
-}
-
-// The field of a word that is so many bits wide and has its lowest bit at a place.
-// What a width and a place may be is asked here and of `join` alone, so no type says it.
-fn field_of(word: u64, width: u64, place: u64) -> u64
-    requires { (width < 64) × (place < 64) }
-    ensures { result ≡ field width place word }
-{
-    (word >> place) & ((1 << width) - 1)
-}
-
-// A word with so many further bits below it.
-fn join(high: u64, width: u64, low: u64) -> u64
-    requires { ((width < 64) × (low < 2 ^ width)) × (joined width high low < 2 ^ 64) }
-    ensures { result ≡ joined width high low }
-{
-    (high << width) | low
 }
 
 // The word that three bytes are. By shifts and masks, here and below: the form that document 01 names.

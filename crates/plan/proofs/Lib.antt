@@ -3,3 +3,4 @@ pub mod Changes
 pub mod AskingLaws
 pub mod WalkerLaws
 pub mod Trials
+pub mod ImageCalls

@@ -3,3 +3,4 @@ pub mod Lookup
 pub mod Ask
 pub mod Walker
 pub mod Tried
+pub mod RoundTrip

@@ -3,9 +3,11 @@
 
 pub mod ask;
 pub mod change;
+pub mod image;
 mod lookup;
 pub mod reason;
 pub mod record;
+pub mod round_trip;
 pub mod sheet;
 pub mod trial;
 pub mod walker;

@@ -3,9 +3,9 @@
 // printed is compared.
 #![tactic(auto)]
 
-use plan::ask::OwnerAnswer;
+use plan::ask::{OwnerAnswer, Shown};
 use std::io::Read;
-use tree::Plan;
+use tree::{Period, Plan, Row};
 
 // More steps than a script has are not read.
 const MOST_STEPS: usize = 1000000;
@@ -88,4 +88,44 @@ pub fn run_owner(rt: &impl Print, plan: &Plan, round: u64) {
     let _ = print!(rt; "owner {round} ");
     print_owner(rt, plan::ask::owner(plan, round));
     let _ = println!(rt);
+}
+
+// A number too large for a period is out of range, and stays so. Not `tree::period_asked`: a period of 16 bits is put as it is.
+pub fn period_of(asked: u64) -> Period {
+    Period(u16::try_from(asked).unwrap_or(u16::MAX))
+}
+
+pub fn run_open(rt: &impl Print, plan: Plan, line: u64, period: u64) -> Plan {
+    let opened = plan::change::open(plan, line, period_of(period));
+    let _ = match opened.answer {
+        Ok(start) => println!(rt; "open {line} {period} 0 {}", start.0),
+        Err(refusal) => println!(rt; "open {line} {period} {} -", u8::from(refusal)),
+    };
+    opened.plan
+}
+
+pub fn run_close(rt: &impl Print, plan: Plan, line: u64) -> Plan {
+    let closed = plan::change::close(plan, line);
+    let _ = match closed.answer {
+        Ok(()) => println!(rt; "close {line} 0"),
+        Err(refusal) => println!(rt; "close {line} {}", u8::from(refusal)),
+    };
+    closed.plan
+}
+
+fn print_shown(rt: &impl Print, line: u64, shown: Shown) {
+    let _ = print!(rt; "show {line} 0 {} {}", shown.period.0, shown.start.0);
+    for Row { weight, edge } in shown.rows {
+        let _ = print!(rt; " {weight} {edge}");
+    }
+    let _ = println!(rt);
+}
+
+pub fn run_show(rt: &impl Print, plan: &Plan, line: u64) {
+    match plan::ask::show(plan, line) {
+        Ok(shown) => print_shown(rt, line, shown),
+        Err(refusal) => {
+            let _ = println!(rt; "show {line} {}", u8::from(refusal));
+        }
+    }
 }

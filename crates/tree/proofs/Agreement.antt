@@ -10,16 +10,19 @@ use Rattle.std.specs.Prelude.{Option, None, Some}
 use Rattle.std.proofs.lemmas.Option.{none-some, same_Some}
 use borrow.Author.Tests.{eq-eqb, ne_eqb}
 use Rattle.tree.specs.Search.{found}
-use Rattle.tree.specs.Tree.{Tree, nothing, is_open, period_of, start_of}
+use Rattle.tree.specs.Tree.{Tree, nothing, product, sum, path, is_open, period_of, start_of}
 use Rattle.tree.specs.Standing.{Stands}
 use Rattle.tree.specs.Shape.{Legal}
 use Rattle.tree.specs.Opening.{start_given, opened}
 use Rattle.tree.specs.Closing.{closed}
 use Rattle.tree.specs.Refusals.{open_refusal}
 use Rattle.tree.specs.Calls.{Call, open_line, close_line, refusal, reply, carried_out, answer_unless, tree_unless, answer, after}
-use Rattle.tree.specs.Lists.{Booking, Ledger, all_closed, with_line, enter, Entry, calls_of, ledger_from, reference_from, answered_from}
+use Rattle.tree.specs.Lists.{Booking, Ledger, ledger_of_tree, with_line, enter, Entry, calls_of, ledger_from, reference_from, answered_from}
 use Rattle.tree.proofs.Closing.{closed_stands, stands_closed, closed_legal}
-use Rattle.tree.proofs.Standing.{stands_open, open_stands}
+use Rattle.tree.proofs.Options.{mapped_some}
+use Rattle.tree.proofs.Searching.{found_some}
+use Rattle.tree.proofs.Proper.{legal_proper}
+use Rattle.tree.proofs.Standing.{stands_open, open_stands, path_stands, stands_once}
 use Rattle.tree.proofs.Opening.{MayOpen, opened_legal, opened_new, opened_others, opened_only}
 use Rattle.tree.proofs.Checks.{open_may}
 
@@ -109,14 +112,25 @@ module _ (ledger : Ledger) (t : Tree) (agree : Agree ledger t) where
   unfolding answer after
   agree_after c = agree_answered c (refusal c t) refl
 
-pub agree_at_first : Agree all_closed nothing
-unfolding all_closed Legal Stands
-agree_at_first =
+-- At first
+
+-- a legal tree agrees with the ledger that begins at it
+pub agree_of_tree : (t : Tree) → Legal t → Agree (ledger_of_tree t) t
+unfolding ledger_of_tree is_open
+agree_of_tree t legal =
     record {
-      legal = tt;
-      stands = λ L b e. absurd (none-some b e);
-      entered = λ L q u h. absurd h;
+      legal = legal;
+      stands = λ L b e. (let x = mapped_some _ (path L t) b e in
+          subst (λ (c : Booking). Stands L t c.period c.start) x.2 (path_stands L t x.0 x.1));
+      entered = λ L q u h. (let x = found_some (path L t) (stands_open L t q u h) in
+          let place = stands_once L t (product x.0) (sum x.0) q u (legal_proper t legal) (path_stands L t x.0 x.1) h in
+          rw x.1 (λ i. Some (record { period = place.0 i; start = place.1 i })));
     }
+
+-- in the empty plan all lines are closed
+pub all_closed_at_first : (L : ℕ) → ledger_of_tree nothing L ≡ None
+unfolding ledger_of_tree path
+all_closed_at_first L = refl
 
 -- Along a list
 

@@ -11,12 +11,13 @@ use lib.ListN.{length}
 use borrow.Author.Tests.{not-true}
 use Rattle.tree.specs.Search.{found}
 use Rattle.tree.specs.Tree.{Tree, nothing, present, is_open, path, path_of, Place}
+use Rattle.tree.specs.Shape.{Legal}
 use Rattle.tree.specs.Opening.{chosen, NoCandidate, start_given}
 use Rattle.tree.specs.Asking.{owner}
 use Rattle.tree.specs.Refusals.{first_refusal, line_above_63, no_room, earlier_checks}
 use Rattle.tree.specs.Calls.{Call, open_line, close_line, Answer, booked, done, refused, refusal, reply, answer_unless, answer}
-use Rattle.tree.specs.Lists.{Booking, Ledger, all_closed, calls_of, ledger_from, ledger_of, reference_from, reference, answered_from, RoundFits}
-use Rattle.tree.specs.Demand3.{SomeOpen, Refused, OpenAnswered, CloseAnswered, Demand3}
+use Rattle.tree.specs.Lists.{Booking, Ledger, ledger_of_tree, calls_of, ledger_after, reference_from, reference, answered_from, RoundFits}
+use Rattle.tree.specs.Demand3.{SomeOpen, Refused, OpenAnswered, CloseAnswered, Demand3From, Demand3}
 use Rattle.tree.proofs.Searching.{found_some, found_none}
 use Rattle.tree.proofs.Proper.{legal_proper}
 use Rattle.tree.proofs.UnderEdge.{stands_present}
@@ -27,7 +28,7 @@ use Rattle.tree.proofs.Checks.{refused_earlier, refused_by_5, close_allowed, clo
 use Rattle.tree.proofs.Numbering.{stands_number}
 use Rattle.tree.proofs.Standing.{stands_open}
 use Rattle.tree.proofs.Depth.{at_most_11_above}
-use Rattle.tree.proofs.Agreement.{Agree, ledger_open, agree_at_first, point, agree_along, calls_answered}
+use Rattle.tree.proofs.Agreement.{Agree, ledger_open, agree_of_tree, point, agree_along, calls_answered}
 
 -- What a call answers
 
@@ -177,24 +178,30 @@ module _ (ledger : Ledger) (t : Tree) (agree : Agree ledger t) where
           let most = stands_number L t b.period b.start agree.legal (agree.stands L b e) in
           absurd (omega arith)
 
--- The theorem
+-- The theorem, of every legal first tree
 
-pub demand_3 : (calls : List Call) → Demand3 (answered_from nothing calls) (reference calls)
-unfolding ledger_of reference
-demand_3 calls =
-    let entries = answered_from nothing calls in
-    let agree = agree_along calls all_closed nothing agree_at_first in
-    let ledger = ledger_from all_closed entries in
-    let t = reference_from nothing calls in
+pub demand_3_from : (first : Tree) → Legal first → (calls : List Call) → Demand3From first (answered_from first calls) (reference_from first calls)
+unfolding ledger_after
+demand_3_from first legal calls =
+    let entries = answered_from first calls in
+    let ledger = ledger_after first entries in
+    let t = reference_from first calls in
+    let at_first = agree_of_tree first legal in
+    let agree = agree_along calls (ledger_of_tree first) first at_first in
     record {
-      tree = ap (reference_from nothing) (sym (calls_answered calls nothing));
+      tree = ap (reference_from first) (sym (calls_answered calls first));
       open_lines = λ L. sym (ledger_open ledger t agree L);
       ownership = owned_exactly ledger t agree;
       one_line_a_round = fits_one ledger t agree;
-      nodes_above = λ L b e. rw (calls_answered calls nothing) (eleven_above ledger t agree L b e);
+      nodes_above = λ L b e. rw (calls_answered calls first) (eleven_above ledger t agree L b e);
       line_range = none_above_63 ledger t agree;
-      opens = λ before L p a later e. (let x = point calls all_closed nothing agree_at_first before _ later e in
-          rw x.by_the_rules (open_answered (ledger_from all_closed before) (reference_from nothing (calls_of before)) x.agree L p));
-      closes = λ before L a later e. (let x = point calls all_closed nothing agree_at_first before _ later e in
-          rw x.by_the_rules (close_answered (ledger_from all_closed before) (reference_from nothing (calls_of before)) x.agree L));
+      opens = λ before L p a later e. (let x = point calls (ledger_of_tree first) first at_first before _ later e in
+          rw x.by_the_rules (open_answered (ledger_after first before) (reference_from first (calls_of before)) x.agree L p));
+      closes = λ before L a later e. (let x = point calls (ledger_of_tree first) first at_first before _ later e in
+          rw x.by_the_rules (close_answered (ledger_after first before) (reference_from first (calls_of before)) x.agree L));
     }
+
+-- and so of the empty plan
+pub demand_3 : (calls : List Call) → Demand3 (answered_from nothing calls) (reference calls)
+unfolding Demand3 reference Legal
+demand_3 calls = demand_3_from nothing tt calls

@@ -54,7 +54,7 @@ after c t = tree_unless (refusal c t) t (carried_out c t)
 
 -- Show, turns and reason
 
--- what a call that only asks gives: what it was asked for, or the number with which it is refused
+-- what a call that asks, writes or reads gives: what it is for, or the number with which it is refused
 pub data Outcome (A : Type 0) : Type 0 where
   gives : A → Outcome A
   refuses : ℕ → Outcome A
@@ -62,6 +62,11 @@ pub data Outcome (A : Type 0) : Type 0 where
 unfoldable pub gives_unless : {A : Type 0} → Option ℕ → A → Outcome A
 gives_unless (Some n) a = refuses n
 gives_unless None a = gives a
+
+-- the number with which such a call is refused, if it is
+unfoldable pub refusal_of : {A : Type 0} → Outcome A → Option ℕ
+refusal_of (gives a) = None
+refusal_of (refuses n) = Some n
 
 -- (Asking the plan, 3)
 unfoldable pub show_outcome : ℕ → Tree → Outcome Shown

@@ -1,15 +1,17 @@
--- The joint table: document 01's marked cases A to I, cases C and I as document 02's Asks 6 and 8 have them, without the printing, as calls with the answers that it marks; then twelve cases of our own.
+-- The joint table: document 01's marked cases A to I, cases C and I as document 02's Asks 6 and 8 have them, without the printing, as calls with the answers that it marks; then thirteen cases of our own.
 -- Each case begins at the empty plan. The one proof over the whole table is in proofs/JointTable.antt.
 -- Assumes nothing.
-use Rattle.std.specs.Prelude.{ℕ, Bool, true, false, List, [], ◌∷◌, ◌++◌, length, take, replicate}
+use Rattle.std.specs.Prelude.{ℕ, Bool, true, false, List, [], ◌∷◌, ◌++◌, length, take, replicate, Option, None, Some}
 use Rattle.tree.specs.declared.Row.{Row}
 use Rattle.tree.specs.declared.Sheet.{Sheet}
 use Rattle.tree.specs.Tree.{Tree, row, path_of, nodes}
 use Rattle.tree.specs.Asking.{OwnerOrRest, owned_by, idle_for, owner_or_rest, rows_11, Shown}
 use Rattle.tree.specs.Sheet.{sheet}
 use Rattle.tree.specs.Reason.{Reason, step_does_not_divide, line_stands}
-use Rattle.tree.specs.Calls.{open_line, close_line, Answer, booked, done, refused, answer, after, Outcome, gives, refuses, show_outcome, turns_outcome, reason_outcome}
+use Rattle.tree.specs.Calls.{open_line, close_line, Answer, booked, done, refused, answer, after, Outcome, gives, refuses, refusal_of, show_outcome, turns_outcome, reason_outcome}
 use Rattle.tree.specs.Trial.{Trial, trial_outcome}
+use Rattle.tree.specs.Image.{image}
+use Rattle.tree.specs.ImageReading.{read_outcome, tree_read}
 
 -- a call or a question with its answer
 pub data Step : Type 0 where
@@ -23,6 +25,8 @@ pub data Step : Type 0 where
   tries : ℕ → ℕ → Outcome Trial → Step
   sheet_of : ℕ → ℕ → Sheet → Step
   reason_at : ℕ → ℕ → ℕ → ℕ → Outcome Reason → Step
+  image_is : List ℕ → Step
+  reads : List ℕ → Option ℕ → Step
 
 -- the same call or question, with the answer that the definitions give in tree t
 unfoldable pub answered : Tree → Step → Step
@@ -36,6 +40,8 @@ answered t (nodes_in_all a) = nodes_in_all (nodes t)
 answered t (tries L p a) = tries L p (trial_outcome L p t)
 answered t (sheet_of first N a) = sheet_of first N (sheet first N t)
 answered t (reason_at p l r i a) = reason_at p l r i (reason_outcome p (record { level = l; offset = r }) i t)
+answered t (image_is bytes) = image_is (image t)
+answered t (reads bytes a) = reads bytes (refusal_of (read_outcome bytes))
 
 -- the tree that it leaves
 unfoldable pub next : Tree → Step → Tree
@@ -49,6 +55,8 @@ next t (nodes_in_all a) = t
 next t (tries L p a) = t
 next t (sheet_of first N a) = t
 next t (reason_at p l r i a) = t
+next t (image_is bytes) = t
+next t (reads bytes a) = tree_read (read_outcome bytes) t
 
 -- a whole case answered by the definitions, from tree t
 unfoldable pub replayed : Tree → List Step → List Step
@@ -358,6 +366,40 @@ nodes_joined =
     ∷ show 1 (shows 24 1 (row 24 1 ∷ []))
     ∷ []
 
+-- ours: images. That of the empty plan; bits that are missing; a path of no rows, which is told before the bits of the next field are missing, and one of 12; bytes behind the
+-- last one, with a bit set that fills that one, and the bit alone; 65 lines, a weight of 0; lines that fall, a line twice, a path that begins another, equal edges with unequal
+-- weights, an edge that is its weight, a period of 8,190. Then a line with a root of weight 1 to itself, case A's plan, and a plan that was read and booked on.
+unfoldable pub images : List Step
+images =
+    image_is (0 ∷ [])
+    ∷ reads [] (Some 13)
+    ∷ reads (2 ∷ 9 ∷ []) (Some 13)
+    ∷ reads (2 ∷ 8 ∷ 0 ∷ []) (Some 14)
+    ∷ reads (2 ∷ 14 ∷ 0 ∷ []) (Some 14)
+    ∷ reads (1 ∷ 0 ∷ []) (Some 13)
+    ∷ reads (1 ∷ []) (Some 14)
+    ∷ reads (130 ∷ []) (Some 14)
+    ∷ reads (2 ∷ 8 ∷ 128 ∷ 0 ∷ 0 ∷ 0 ∷ []) (Some 14)
+    ∷ reads (4 ∷ 16 ∷ 128 ∷ 16 ∷ 0 ∷ 2 ∷ 32 ∷ 4 ∷ 0 ∷ 32 ∷ []) (Some 14)
+    ∷ reads (4 ∷ 8 ∷ 128 ∷ 16 ∷ 0 ∷ 2 ∷ 32 ∷ 4 ∷ 0 ∷ 32 ∷ []) (Some 14)
+    ∷ reads (4 ∷ 8 ∷ 128 ∷ 16 ∷ 0 ∷ 4 ∷ 64 ∷ 4 ∷ 0 ∷ 0 ∷ 4 ∷ 0 ∷ 0 ∷ []) (Some 14)
+    ∷ reads (4 ∷ 9 ∷ 0 ∷ 32 ∷ 0 ∷ 0 ∷ 16 ∷ 0 ∷ 4 ∷ 64 ∷ 8 ∷ 0 ∷ 0 ∷ 6 ∷ 0 ∷ 32 ∷ []) (Some 14)
+    ∷ reads (2 ∷ 8 ∷ 128 ∷ 16 ∷ 1 ∷ 0 ∷ []) (Some 14)
+    ∷ reads (2 ∷ 9 ∷ 127 ∷ 248 ∷ 0 ∷ 0 ∷ 16 ∷ 0 ∷ 0 ∷ []) (Some 14)
+    ∷ reads (2 ∷ 40 ∷ 128 ∷ 8 ∷ 0 ∷ 0 ∷ []) None
+    ∷ show 5 (shows 1 0 (row 1 0 ∷ []))
+    ∷ opens 6 1 (refused 5)
+    ∷ reads (0 ∷ []) None
+    ∷ (bookings_A
+    ++ (image_is (8 ∷ 9 ∷ 0 ∷ 16 ∷ 0 ∷ 0 ∷ 16 ∷ 0 ∷ 4 ∷ 64 ∷ 4 ∷ 0 ∷ 32 ∷ 6 ∷ 0 ∷ 1 ∷ 152 ∷ 1 ∷ 0 ∷ 0 ∷ 1 ∷ 0 ∷ 8 ∷ 1 ∷ 0 ∷ 0 ∷ 134 ∷ 0 ∷ 64 ∷ 2 ∷ 0 ∷ 96 ∷ 2 ∷ 0 ∷ 64 ∷ 0 ∷ [])
+    ∷ reads (4 ∷ 8 ∷ 128 ∷ 16 ∷ 0 ∷ 4 ∷ 32 ∷ 4 ∷ 0 ∷ 32 ∷ []) None
+    ∷ owner_of 7 (owned_by 2)
+    ∷ closes 2 done
+    ∷ reads (1 ∷ []) (Some 14)
+    ∷ opens 9 4 (booked 1)
+    ∷ image_is (4 ∷ 8 ∷ 128 ∷ 16 ∷ 0 ∷ 18 ∷ 64 ∷ 4 ∷ 0 ∷ 32 ∷ 4 ∷ 0 ∷ 0 ∷ [])
+    ∷ []))
+
 unfoldable pub cases : List (List Step)
 cases =
     case_A
@@ -381,4 +423,5 @@ cases =
     ∷ sheets
     ∷ reasons
     ∷ nodes_joined
+    ∷ images
     ∷ []

@@ -19,4 +19,7 @@ pub mod Answered
 pub mod Lists
 pub mod Demand3
 pub mod Record
+pub mod Bits
+pub mod Image
+pub mod ImageReading
 pub mod Cases

@@ -15,11 +15,13 @@ pub enum Refusal {
     NoRoom = 5,
     NoOrder = 6,
     ListLength = 7,
-    AnswersTooShort = 8,
+    BufferTooShort = 8,
     WalkerAtEnd = 9,
     NoNode = 10,
     NoClass = 11,
     NoLineInClass = 12,
+    ImageLength = 13,
+    ImageField = 14,
 }
 
 impl From<Refusal> for u8 {
@@ -40,11 +42,13 @@ impl fmt::Display for Refusal {
             Refusal::NoRoom => "no node has room for the period",
             Refusal::NoOrder => "these are no order",
             Refusal::ListLength => "the list's length is no multiple of 3, or above 65,535",
-            Refusal::AnswersTooShort => "there are fewer than two answer bytes for each order",
+            Refusal::BufferTooShort => "the lent buffer is too short for what is written",
             Refusal::WalkerAtEnd => "the walker can not go on: one of its numbers is 2^64 - 1",
             Refusal::NoNode => "no node has this level and offset",
             Refusal::NoClass => "the node has no such class for the period",
             Refusal::NoLineInClass => "no line stands in the class",
+            Refusal::ImageLength => "the image has too few or too many bytes",
+            Refusal::ImageField => "the image's bits are no legal tree's",
         })
     }
 }

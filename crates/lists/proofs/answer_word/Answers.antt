@@ -5,7 +5,7 @@ use native.Mathlib.Omega.{arith}
 use Rattle.tree.specs.declared.refusal.Refusal.{Refusal}
 use Rattle.tree.specs.declared.refusal.Refusal.TheVariants as refusal
 use Rattle.tree.specs.Answered.{number_of}
-use Rattle.orders.specs.Field.{joined}
+use Rattle.bits.specs.Field.{joined}
 use Rattle.lists.specs.Lists.{result_field, start, answer_word}
 use Rattle.lists.specs.Runs.{answer_in}
 use Rattle.lists.proofs.answer_word.Goals as goal
@@ -19,11 +19,13 @@ number_fits refusal.LineNotOpen = omega arith
 number_fits refusal.NoRoom = omega arith
 number_fits refusal.NoOrder = omega arith
 number_fits refusal.ListLength = omega arith
-number_fits refusal.AnswersTooShort = omega arith
+number_fits refusal.BufferTooShort = omega arith
 number_fits refusal.WalkerAtEnd = omega arith
 number_fits refusal.NoNode = omega arith
 number_fits refusal.NoClass = omega arith
 number_fits refusal.NoLineInClass = omega arith
+number_fits refusal.ImageLength = omega arith
+number_fits refusal.ImageField = omega arith
 
 pub returns-in-Ok-Some : goal.returns-in-Ok-Some
 unfolding answer_word joined result_field start answer_in

@@ -2,9 +2,8 @@
 -- Assumes nothing.
 use mathlib.Core.Path.{sym, ◌∙◌}
 use borrow.Author.Tests.{lt-ltb, le-ltb}
-use Rattle.tree.specs.Answered.{number_of}
+use Rattle.tree.specs.Answered.{number_of, refusal_in}
 use Rattle.lists.specs.Lists.{room_refused}
-use Rattle.lists.specs.Runs.{refusal_in}
 use Rattle.lists.proofs.ListChecks.{unfit_length, too_little_room, checks_passed}
 use Rattle.lists.proofs.check_lengths.Goals as goal
 

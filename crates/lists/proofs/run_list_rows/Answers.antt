@@ -2,7 +2,7 @@
 -- Assumes nothing.
 use mathlib.Core.Path.{sym}
 use Rattle.std.proofs.lemmas.Result.{err_from_is_err_and}
-use Rattle.lists.specs.Runs.{refusal_in}
+use Rattle.tree.specs.Answered.{refusal_in}
 use Rattle.lists.proofs.WholeList.{list_refused, list_run}
 use Rattle.lists.proofs.run_list_rows.Goals as goal
 

@@ -2,7 +2,7 @@
 -- Assumes nothing.
 use native.Mathlib.Omega.{arith}
 use Rattle.orders.specs.Order.{kind, line, period, filler, fields_of}
-use Rattle.orders.proofs.FieldLaws.{field_below}
+use Rattle.bits.proofs.FieldLaws.{field_below}
 use Rattle.orders.proofs.fields.Goals as goal
 
 pub overflow_cast-result : goal.overflow_cast-result

@@ -2,7 +2,7 @@
 -- Assumes nothing.
 use native.Mathlib.Omega.{arith}
 use Rattle.orders.specs.Order.{bytes_of}
-use Rattle.orders.proofs.FieldLaws.{field_below}
+use Rattle.bits.proofs.FieldLaws.{field_below}
 use Rattle.orders.proofs.split.Goals as goal
 
 pub overflow_cast-first : goal.overflow_cast-first

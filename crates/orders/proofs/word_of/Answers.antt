@@ -2,7 +2,7 @@
 -- Assumes nothing.
 use native.Mathlib.Omega.{arith}
 use mathlib.Core.Path.{ap, ◌∙◌}
-use Rattle.orders.specs.Field.{joined}
+use Rattle.bits.specs.Field.{joined}
 use Rattle.orders.specs.Order.{order_of}
 use Rattle.orders.proofs.word_of.Goals as goal
 

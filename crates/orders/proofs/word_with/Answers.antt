@@ -1,7 +1,7 @@
 -- `orders::word_with` meets its contract: kind, line, period and filler are joined, the kind highest.
 -- Assumes nothing.
 use native.Mathlib.Omega.{arith}
-use Rattle.orders.specs.Field.{joined}
+use Rattle.bits.specs.Field.{joined}
 use Rattle.orders.specs.Order.{order_with}
 use Rattle.orders.proofs.word_with.Goals as goal
 

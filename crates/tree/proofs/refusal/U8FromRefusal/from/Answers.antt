@@ -18,11 +18,13 @@ numbered refusal.LineNotOpen = refl
 numbered refusal.NoRoom = refl
 numbered refusal.NoOrder = refl
 numbered refusal.ListLength = refl
-numbered refusal.AnswersTooShort = refl
+numbered refusal.BufferTooShort = refl
 numbered refusal.WalkerAtEnd = refl
 numbered refusal.NoNode = refl
 numbered refusal.NoClass = refl
 numbered refusal.NoLineInClass = refl
+numbered refusal.ImageLength = refl
+numbered refusal.ImageField = refl
 
 pub returns : goal.returns
 returns c = numbered c.args.refusal

@@ -1,0 +1,2 @@
+-- Laws of fields, and the proof of each function.
+pub mod FieldLaws

@@ -1,0 +1,20 @@
+// The calls that write the image of a plan into lent bytes, and read one.
+ghost use Rattle.gaplinte.specs.ImagesServed.{ImageWriteServed, ImageReadServed};
+
+use crate::answers;
+
+// Writes the image of a plan, and answers how many bytes it has. The bytes behind these are left alone.
+pub fn gaplinte_write_image(rows: &[u16; 1408], buffer: &mut [u8]) -> i64
+    ensures { ImageWriteServed rows.now buffer.old buffer.new result }
+{
+    let written = plan::image::write_image(rows, buffer);
+    answers::number(written.map(|length| length as u64))
+}
+
+// Reads an image into the record that is lent, which then has the image's tree.
+pub fn gaplinte_read_image(rows: &mut [u16; 1408], image: &[u8]) -> i64
+    ensures { ImageReadServed image.now rows.old rows.new result }
+{
+    let read = plan::image::read_image_rows(rows, image);
+    answers::number(read.map(|()| 0))
+}
