@@ -1,6 +1,6 @@
 /* Gaplinte: a plan of rounds for one recorder. The calls of the proved library, for C99 and C++.
  *
- * Answers. Each call answers one number: its value, 0 or more, or minus the number of a refusal, -1 to -14. A refusal
+ * Answers. Each call answers one number: its value, 0 or more, or minus the number of a refusal, -1 to -16. A refusal
  * stays negative where it is kept in a narrower signed type. A refused call leaves all that it was lent as found.
  *
  * The plan. The caller keeps it and lends it to the calls. For each line it has 11 rows of weight and edge: the nodes
@@ -21,14 +21,14 @@
  *
  * A plan that is no tree (damaged, say, or never written) is treated by each call as the empty plan: owner and the
  * walker answer idle with rest 0, show, turns and close refuse with 4, reason refuses with 10, in a sheet all rounds
- * are idle, a trial tells what an open in the empty plan would do, its image is that of the empty plan, and an open
- * that is not refused replaces it. gaplinte_is_tree tells.
+ * are idle, a trial tells what an open in the empty plan would do, its image is that of the empty plan, woven it is a
+ * side without lines, and an open that is not refused replaces it. gaplinte_is_tree tells.
  *
  * Threads. The library keeps nothing between calls and has no global data, so calls on different records may run in
  * different threads. While one thread changes a record, no other may use it.
  *
  * Pointers. None is null, also where a list, an image or a buffer has no bytes. What is lent to one call does not
- * overlap.
+ * overlap, except that the two plans which gaplinte_weave reads may be one.
  *
  * Link with libgaplinte.a, which `bash bindings/build` writes to target/staticlib. */
 #ifndef GAPLINTE_H
@@ -78,6 +78,8 @@
 #define GAPLINTE_NO_LINE_IN_CLASS 12
 #define GAPLINTE_IMAGE_LENGTH 13
 #define GAPLINTE_IMAGE_FIELD 14
+#define GAPLINTE_OPEN_IN_BOTH 15
+#define GAPLINTE_DOUBLED_PERIOD_OUT_OF_RANGE 16
 
 /* So that compilers warn where an answer is thrown away, and a refusal with it. */
 #if defined(__cplusplus) && __cplusplus >= 201703L
@@ -186,6 +188,8 @@ static inline const char *gaplinte_refusal_text(int64_t answer) {
         case -GAPLINTE_IMAGE_LENGTH: return "bits of the image are missing, or bytes follow its last one";
         case -GAPLINTE_IMAGE_FIELD:
             return "no image: a field is out of range, a bit that fills the last byte is 1, or the tree is not legal";
+        case -GAPLINTE_OPEN_IN_BOTH: return "a line is open in both plans";
+        case -GAPLINTE_DOUBLED_PERIOD_OUT_OF_RANGE: return "a doubled period is above 4095";
         default: return "no call is refused so";
     }
 }
@@ -279,6 +283,15 @@ GAPLINTE_NODISCARD int64_t gaplinte_write_image(const gaplinte_plan *plan, uint8
  * before it, an edge that is not below its weight, a period above 4,095, a weight of 1 beside other rows, two weights
  * at one place, a line at another's place or on the way to it. */
 GAPLINTE_NODISCARD int64_t gaplinte_read_image(gaplinte_plan *plan, const uint8_t *image, size_t image_bytes);
+
+/* Weaves two plans into one, for a recorder of twice the rate: `woven`, whatever it was, gets the woven tree. Where t
+ * is even, the owner of round t is then that of round t / 2 in `a`, and where t is odd, that of round (t - 1) / 2 in
+ * `b`. Each period is doubled, and a start s becomes 2 s for a line of `a` and 2 s + 1 for a line of `b`. The root has
+ * weight 2, with the tree of `a` under edge 0 and that of `b` under edge 1. The edge of a plan without lines is absent;
+ * where both have none, the woven plan is the empty one. Where a root has weight 1, its line alone stands under the
+ * edge. `a` and `b` are only read, and may be one plan; `woven` is neither of them. The value is 0. Refused with 15
+ * where a line is open in both, else with 16 where a doubled period is above 4,095. */
+GAPLINTE_NODISCARD int64_t gaplinte_weave(const gaplinte_plan *a, const gaplinte_plan *b, gaplinte_plan *woven);
 
 /* Packs an order of a kind; a close has period 0. The value is 0. Refused with 6, 1 or 2. */
 GAPLINTE_NODISCARD int64_t gaplinte_pack(uint64_t kind, uint64_t line, uint64_t period, gaplinte_order *order);

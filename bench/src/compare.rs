@@ -1,8 +1,10 @@
-//! Both give the same answers and leave the same records and bytes, on generated calls, sheets, reasons, images and lists.
+//! Both give the same answers and leave the same records and bytes, on generated calls, sheets, reasons, images, weaves
+//! and lists.
 
 mod images;
 mod reasons;
 mod sheets;
+mod weaves;
 
 use crate::inputs::{
     list_of, plan_of, plan_of_powers, rounds_under_11_nodes, rounds_where, ORDERS,
@@ -279,6 +281,8 @@ pub fn compare_answers(folder: &Path) {
     reasons::compare_measured_reasons();
     images::compare_images();
     images::compare_measured_images();
+    weaves::compare_weaves();
+    weaves::compare_measured_weaves();
     compare_lists();
     compare_programs(folder);
 }

@@ -8,14 +8,19 @@ const PERIODS: [u16; 8] = [480, 360, 240, 720, 960, 1440, 600, 1200];
 /// The most orders that a list may have.
 pub const ORDERS: usize = 21_845;
 
-/// A plan of the lines 0, 1, 2 .. with these periods.
-fn plan_with(periods: impl Iterator<Item = u64>) -> Record {
+/// A plan of the lines from `first` on with these periods.
+fn plan_with_from(first: u64, periods: impl Iterator<Item = u64>) -> Record {
     let mut rows = [0; RECORD];
-    for (line, period) in (0..).zip(periods) {
+    for (line, period) in (first..).zip(periods) {
         let answer = plain::open(&mut rows, line, period);
         assert!(0 <= answer, "line {line} is booked");
     }
     rows
+}
+
+/// A plan of the lines 0, 1, 2 .. with these periods.
+fn plan_with(periods: impl Iterator<Item = u64>) -> Record {
+    plan_with_from(0, periods)
 }
 
 /// So many of the periods above, in turn.
@@ -34,6 +39,21 @@ pub fn plan_of(lines: u64) -> Record {
 /// of weight 15. With 16 lines it is full and the others' paths have three rows, with 64 lines four to six.
 pub fn deep_plan_of(lines: u64) -> Record {
     plan_with([2, 30].into_iter().chain(periods(lines - 2)))
+}
+
+/// Two plans of so many lines each, as above: the second has the lines after those of the first.
+pub fn pair_of(lines: u64) -> [Record; 2] {
+    [plan_of(lines), plan_with_from(lines, periods(lines))]
+}
+
+/// The same, but that the last line of the first is the first one of the second.
+pub fn pair_with_line_in_both(lines: u64) -> [Record; 2] {
+    [plan_of(lines), plan_with_from(lines - 1, periods(lines))]
+}
+
+/// The plan of a line that has a root of weight 1 to itself.
+pub fn plan_of_line_alone(line: u64) -> Record {
+    plan_with_from(line, [1].into_iter())
 }
 
 /// Case F: the lines 0, 1, 2 .. have the periods 2, 4, 8 .. The last one, of period 2,048, has 11 nodes above it.

@@ -36,6 +36,7 @@ struct Calls {
     run_list: fn(&mut Record, &[u8], &mut [u8]) -> i64,
     write_image: fn(&Record, &mut [u8]) -> i64,
     read_image: fn(&mut Record, &[u8]) -> i64,
+    weave: fn(&Record, &Record, &mut Record) -> i64,
 }
 
 const LIBRARY: Calls = Calls {
@@ -47,6 +48,7 @@ const LIBRARY: Calls = Calls {
     run_list: raw::run_list,
     write_image: raw::write_image,
     read_image: raw::read_image,
+    weave: raw::weave,
 };
 const PLAIN: Calls = Calls {
     open: plain::open,
@@ -57,6 +59,7 @@ const PLAIN: Calls = Calls {
     run_list: plain::run_list,
     write_image: plain::write_image,
     read_image: plain::read_image,
+    weave: plain::weave,
 };
 
 /// Compares, then measures. The programs' files are in a folder of their own.

@@ -1,6 +1,7 @@
 //! The table: nanoseconds of the library and of plain Rust, which take turns, the best of many repetitions for each.
 
 mod images;
+mod weaves;
 
 use crate::inputs::{
     deep_plan_of, list_of, plan_of, plan_of_powers, rounds_under_11_nodes, rounds_where, ORDERS,
@@ -24,6 +25,15 @@ pub const SPLIT_LINES: [usize; 3] = [2, 16, 60];
 
 /// A period whose open splits the root there.
 pub const SPLIT_PERIOD: u64 = 60;
+
+/// The numbers of lines of each of two plans that are woven.
+pub const PAIR_LINES: [usize; 3] = [1, 8, 32];
+
+/// The same, where one line is open in both.
+pub const REFUSED_PAIR_LINES: [usize; 1] = [32];
+
+/// The number of lines of a plan that is woven with the empty one.
+pub const WITH_EMPTY_LINES: [usize; 1] = [64];
 
 /// How many calls are timed together, where one is short.
 pub const TOGETHER: usize = 100;
@@ -145,7 +155,7 @@ struct Measured {
     task: fn(Calls, usize) -> Task,
 }
 
-const MEASURED: [Measured; 14] = [
+const MEASURED: [Measured; 17] = [
     Measured {
         name: "owner, owned round",
         lines: &LINES,
@@ -215,6 +225,27 @@ const MEASURED: [Measured; 14] = [
         calls: TOGETHER,
         repetitions: 300,
         task: images::reads_deep,
+    },
+    Measured {
+        name: "weave, lines of each plan",
+        lines: &PAIR_LINES,
+        calls: TOGETHER,
+        repetitions: 300,
+        task: weaves::weaves,
+    },
+    Measured {
+        name: "weave with the empty plan",
+        lines: &WITH_EMPTY_LINES,
+        calls: TOGETHER,
+        repetitions: 300,
+        task: weaves::weaves_with_empty,
+    },
+    Measured {
+        name: "weave refused with 15, lines of each plan",
+        lines: &REFUSED_PAIR_LINES,
+        calls: TOGETHER,
+        repetitions: 300,
+        task: weaves::weaves_refused,
     },
     Measured {
         name: "open with close",
@@ -292,8 +323,9 @@ pub fn profile(mut words: impl Iterator<Item = String>) {
     let mut number = || words.next().and_then(|word| word.parse().ok());
     let row: usize = number().expect(
         "a row: 0 owned round, 1 idle round, 2 owner under 11 nodes, 3 sheet, 4 reason, 5 the same in a deep plan, \
-         6 image written, 7 the same of a deep plan, 8 image read, 9 the same of a deep plan, 10 open with close, \
-         11 the same in a deep plan, 12 the same that splits and joins, 13 list",
+         6 image written, 7 the same of a deep plan, 8 image read, 9 the same of a deep plan, 10 weave, \
+         11 the same with the empty plan, 12 the same refused with 15, 13 open with close, 14 the same in a deep plan, \
+         15 the same that splits and joins, 16 list",
     );
     let lines: usize = number().expect("a number of lines");
     let times: usize = number().expect("a number of tasks");

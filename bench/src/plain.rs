@@ -5,11 +5,12 @@ mod change;
 mod image;
 mod joining;
 mod list;
-mod owner;
+pub mod owner;
 pub mod paths;
 pub mod reason;
 pub mod search;
 mod sheet;
+mod weave;
 
 use crate::Record;
 
@@ -18,6 +19,7 @@ pub use image::{read_image, write_image};
 pub use list::run_list;
 pub use owner::owner;
 pub use sheet::sheet;
+pub use weave::weave;
 
 pub const LINES: usize = 64;
 pub const ROWS: usize = 11;

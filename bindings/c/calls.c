@@ -6,7 +6,7 @@
 
 #include "gaplinte.h"
 
-#define REFUSALS 14
+#define REFUSALS 16
 
 static gaplinte_plan plan;
 static int differences;
@@ -838,6 +838,202 @@ static void images_written_and_read(void) {
     longest_image();
 }
 
+/* The plans that are woven, and the one that they are woven to. */
+static gaplinte_plan side_a, side_b, woven;
+
+/* Weaves two plans, which stay as found. The third gets the woven plan, whatever it was, or stays as found where the
+ * call is refused. */
+static void expect_weave(int at, const gaplinte_plan *even, const gaplinte_plan *odd, int64_t expected) {
+    const gaplinte_plan found_even = *even, found_odd = *odd;
+    gaplinte_plan lents[3], first;
+    memset(&lents[0], 0, sizeof *lents);
+    memset(&lents[1], 0xee, sizeof *lents);
+    lents[2] = *even;
+    for (int which = 0; which < 3; which++) {
+        woven = lents[which];
+        expect(at, gaplinte_weave(even, odd, &woven), expected);
+        if (which == 0) first = woven;
+        expect(at, memcmp(&woven, expected < 0 ? &lents[which] : &first, sizeof woven), 0);
+    }
+    if (expected == 0) expect(at, gaplinte_is_tree(&woven), 1);
+    expect(at, memcmp(even, &found_even, sizeof found_even), 0);
+    expect(at, memcmp(odd, &found_odd, sizeof found_odd), 0);
+}
+
+#define EXPECT_WEAVE(even, odd, expected) expect_weave(__LINE__, even, odd, expected)
+
+/* What show gives of a line of the woven plan. Its rows behind these are 0 and 0. */
+static void expect_line(int at, uint64_t line, int period, int start, const gaplinte_row *rows, size_t count) {
+    gaplinte_row path[GAPLINTE_ROWS] = {{0, 0}};
+    gaplinte_shown shown;
+    memcpy(path, rows, count * sizeof *rows);
+    expect(at, gaplinte_show(&woven, line, &shown), 0);
+    expect(at, shown.period, period);
+    expect(at, shown.start, start);
+    expect(at, memcmp(shown.path, path, sizeof path), 0);
+}
+
+#define EXPECT_LINE(line, period, start, ...) \
+    do { \
+        const gaplinte_row rows[] = {__VA_ARGS__}; \
+        expect_line(__LINE__, line, period, start, rows, sizeof rows / sizeof *rows); \
+    } while (0)
+
+/* How many lines the woven plan has. */
+static int woven_lines(void) {
+    int count = 0;
+    for (int line = 0; line < GAPLINTE_LINES; line++) count += woven.paths[line][0].weight > 0;
+    return count;
+}
+
+/* The owner of round t is that of round t div 2 in one of the two plans, of small rounds and of the last ones. */
+static void expect_sides(int at) {
+    for (uint64_t round = 0; round < 200; round++) {
+        const uint64_t rounds[] = {round, UINT64_MAX - round};
+        for (size_t which = 0; which < 2; which++) {
+            int64_t owner = gaplinte_owner(&woven, rounds[which]);
+            int64_t of_side = gaplinte_owner(rounds[which] % 2 == 0 ? &side_a : &side_b, rounds[which] / 2);
+            expect(at, gaplinte_is_idle(owner), gaplinte_is_idle(of_side));
+            if (!gaplinte_is_idle(owner)) expect(at, owner, of_side);
+        }
+    }
+}
+
+#define EXPECT_SIDES() expect_sides(__LINE__)
+
+/* A plan with so many lines from a first one on, all of one period. */
+static void book_side(gaplinte_plan *side, uint64_t first, uint64_t period, int count) {
+    memset(side, 0, sizeof *side);
+    for (int which = 0; which < count; which++) EXPECT(gaplinte_open(side, first + (uint64_t)which, period), which);
+}
+
+/* Case A, and one node of weight 3 with its edge 2 free. */
+static void two_sides(void) {
+    memset(&side_a, 0, sizeof side_a);
+    EXPECT(gaplinte_open(&side_a, 1, 4), 0);
+    EXPECT(gaplinte_open(&side_a, 2, 6), 1);
+    EXPECT(gaplinte_open(&side_a, 3, 8), 2);
+    EXPECT(gaplinte_open(&side_a, 4, 12), 3);
+    book_side(&side_b, 62, 3, 2);
+    EXPECT_WEAVE(&side_a, &side_b, 0);
+    EXPECT(woven_lines(), 6);
+    EXPECT_LINE(1, 8, 0, {2, 0}, {2, 0}, {2, 0});
+    EXPECT_LINE(2, 12, 2, {2, 0}, {2, 1}, {3, 0});
+    EXPECT_LINE(3, 16, 4, {2, 0}, {2, 0}, {2, 1}, {2, 0});
+    EXPECT_LINE(4, 24, 6, {2, 0}, {2, 1}, {3, 1}, {2, 0});
+    EXPECT_LINE(62, 6, 1, {2, 1}, {3, 0});
+    EXPECT_LINE(63, 6, 3, {2, 1}, {3, 1});
+    EXPECT_SIDES();
+}
+
+/* The same plan. The 6 finds the free edge of the odd side, and the 12 the edge 2 of the node above lines 2 and 4, which
+ * has step 4 and offset 2. When all odd lines are closed, the root is joined with the node that is left below it. */
+static void bookings_of_a_woven_plan(void) {
+    EXPECT(gaplinte_open(&woven, 62, 12), -GAPLINTE_LINE_OPEN);
+    EXPECT(gaplinte_open(&woven, 5, 2), -GAPLINTE_NO_CANDIDATE);
+    EXPECT(gaplinte_open(&woven, 5, 6), 5);
+    EXPECT(gaplinte_open(&woven, 6, 12), 10);
+    EXPECT_LINE(5, 6, 5, {2, 1}, {3, 2});
+    EXPECT_LINE(6, 12, 10, {2, 0}, {2, 1}, {3, 2});
+    EXPECT(gaplinte_close(&woven, 5), 0);
+    EXPECT(gaplinte_close(&woven, 62), 0);
+    EXPECT_LINE(63, 6, 3, {2, 1}, {3, 1});
+    EXPECT(gaplinte_close(&woven, 63), 0);
+    EXPECT_LINE(1, 8, 0, {4, 0}, {2, 0});
+    EXPECT_LINE(6, 12, 10, {4, 2}, {3, 2});
+}
+
+/* The edge of a side without lines is absent, and where a root has weight 1, its line alone stands under the edge. The
+ * longest period that can be doubled is 2,047. */
+static void sides_without_nodes(void) {
+    const gaplinte_plan empty = {{{{0, 0}}}};
+    memset(&side_a, 0, sizeof side_a);
+    memset(&side_b, 0, sizeof side_b);
+    EXPECT_WEAVE(&side_a, &side_b, 0);
+    EXPECT_SAME(woven, empty);
+    EXPECT_WEAVE(&side_a, &side_a, 0);
+    EXPECT_SAME(woven, empty);
+    book_side(&side_a, 0, 1, 1);
+    EXPECT_WEAVE(&side_a, &side_b, 0);
+    EXPECT(woven_lines(), 1);
+    EXPECT_LINE(0, 2, 0, {2, 0});
+    EXPECT_SIDES();
+    book_side(&side_b, 63, 1, 1);
+    EXPECT_WEAVE(&side_a, &side_b, 0);
+    EXPECT(woven_lines(), 2);
+    EXPECT_LINE(0, 2, 0, {2, 0});
+    EXPECT_LINE(63, 2, 1, {2, 1});
+    EXPECT_SIDES();
+    side_a = woven;
+    book_side(&side_b, 7, 2047, 2);
+    EXPECT_WEAVE(&side_a, &side_b, 0);
+    EXPECT(woven_lines(), 4);
+    EXPECT_LINE(0, 4, 0, {2, 0}, {2, 0});
+    EXPECT_LINE(63, 4, 2, {2, 0}, {2, 1});
+    EXPECT_LINE(7, 4094, 1, {2, 1}, {2047, 0});
+    EXPECT_LINE(8, 4094, 3, {2, 1}, {2047, 1});
+    EXPECT_SIDES();
+}
+
+/* From a line of every round to one of every 2,048th, which stands under eleven nodes. */
+static void woven_eleven_times(void) {
+    gaplinte_row rows[GAPLINTE_ROWS];
+    memset(&side_a, 0, sizeof side_a);
+    book_side(&side_b, 5, 1, 1);
+    for (int times = 1; times <= GAPLINTE_ROWS; times++) {
+        rows[times - 1].weight = 2;
+        rows[times - 1].edge = 1;
+        EXPECT_WEAVE(&side_a, &side_b, 0);
+        expect_line(__LINE__, 5, 1 << times, (1 << times) - 1, rows, (size_t)times);
+        side_b = woven;
+    }
+    EXPECT_WEAVE(&side_a, &side_b, -GAPLINTE_DOUBLED_PERIOD_OUT_OF_RANGE);
+    EXPECT_WEAVE(&side_b, &side_a, -GAPLINTE_DOUBLED_PERIOD_OUT_OF_RANGE);
+}
+
+/* Each line once as the one that is open in both, which comes before the doubled period. */
+static void refused_weaves(void) {
+    for (uint64_t line = 0; line < GAPLINTE_LINES; line++) {
+        book_side(&side_a, line < 3 ? 0 : line - 2, 7, 3);
+        book_side(&side_b, line, 2048, 1);
+        EXPECT_WEAVE(&side_a, &side_b, -GAPLINTE_OPEN_IN_BOTH);
+        EXPECT_WEAVE(&side_b, &side_a, -GAPLINTE_OPEN_IN_BOTH);
+        EXPECT_WEAVE(&side_a, &side_a, -GAPLINTE_OPEN_IN_BOTH);
+        EXPECT_WEAVE(&side_b, &side_b, -GAPLINTE_OPEN_IN_BOTH);
+        memset(&side_a, 0, sizeof side_a);
+        EXPECT_WEAVE(&side_a, &side_b, -GAPLINTE_DOUBLED_PERIOD_OUT_OF_RANGE);
+        EXPECT_WEAVE(&side_b, &side_a, -GAPLINTE_DOUBLED_PERIOD_OUT_OF_RANGE);
+    }
+}
+
+/* A plan that is no tree is a side without lines, of which none is open and none has a period. */
+static void damaged_sides(void) {
+    const gaplinte_plan empty = {{{{0, 0}}}};
+    book_side(&side_a, 5, 12, 1);
+    side_b = side_a;
+    side_b.paths[5][0].edge = 12;
+    EXPECT_WEAVE(&side_a, &side_b, 0);
+    EXPECT(woven_lines(), 1);
+    EXPECT_LINE(5, 24, 0, {2, 0}, {12, 0});
+    EXPECT_WEAVE(&side_b, &side_a, 0);
+    EXPECT(woven_lines(), 1);
+    EXPECT_LINE(5, 24, 1, {2, 1}, {12, 0});
+    memset(&side_a, 0xff, sizeof side_a);
+    EXPECT_WEAVE(&side_a, &side_b, 0);
+    EXPECT_SAME(woven, empty);
+    EXPECT_WEAVE(&side_b, &side_b, 0);
+    EXPECT_SAME(woven, empty);
+}
+
+static void weaves(void) {
+    two_sides();
+    bookings_of_a_woven_plan();
+    sides_without_nodes();
+    woven_eleven_times();
+    refused_weaves();
+    damaged_sides();
+}
+
 /* Marked case I. */
 static void list(void) {
     const uint8_t orders[] = {0x01, 0x00, 0x60, 0x02, 0x00, 0x20, 0x03, 0x00, 0x30,
@@ -886,8 +1082,8 @@ static void bring_about(int64_t answers[REFUSALS]) {
     gaplinte_place at_end = {UINT64_MAX, 0};
     gaplinte_order packed;
     uint8_t lent[1];
-    memset(&plan, 0, sizeof plan);
-    EXPECT(gaplinte_open(&plan, 0, 4), 0);
+    book_side(&plan, 0, 4, 1);
+    book_side(&side_b, 1, 2048, 1);
     answers[0] = gaplinte_open(&plan, 64, 4);
     answers[1] = gaplinte_open(&plan, 1, 0);
     answers[2] = gaplinte_open(&plan, 0, 4);
@@ -902,6 +1098,8 @@ static void bring_about(int64_t answers[REFUSALS]) {
     answers[11] = gaplinte_reason(&plan, 4, 0, 0, 1);
     answers[12] = gaplinte_read_image(&plan, orders, 0);
     answers[13] = gaplinte_read_image(&plan, orders, 1);
+    answers[14] = gaplinte_weave(&plan, &plan, &woven);
+    answers[15] = gaplinte_weave(&plan, &side_b, &woven);
 }
 
 /* A refusal is still negative, and the same one, where its answer was kept in a narrower type. */
@@ -1008,6 +1206,7 @@ int main(void) {
     reasons_in_a_deep_plan();
     each_class_of_each_node();
     images_written_and_read();
+    weaves();
     list();
     order();
     narrowed();

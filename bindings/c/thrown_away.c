@@ -2,7 +2,7 @@
  * which warnings are errors has to refuse that. It is compiled only, and is C++ too. */
 #include "gaplinte.h"
 
-gaplinte_plan plan;
+gaplinte_plan plan, woven;
 gaplinte_tried tried;
 gaplinte_shown shown;
 gaplinte_figures figures;

@@ -60,11 +60,13 @@ _TEXTS = {
     12: "no line stands in the class",
     13: "bits of the image are missing, or bytes follow its last one",
     14: "no image: a field is out of range, a bit that fills the last byte is 1, or the tree is not legal",
+    15: "a line is open in both plans",
+    16: "a doubled period is above 4095",
 }
 
 
 class Refused(Exception):
-    """A call was refused: with a number of documents 01 and 02, 1 to 14, and what that means."""
+    """A call was refused: with a number of documents 01 and 02, 1 to 16, and what that means."""
 
     def __init__(self, number: int):
         super().__init__(number)
@@ -213,6 +215,7 @@ def _loaded() -> ctypes.CDLL:
         "run_list": [plan, ctypes.c_char_p, ctypes.c_size_t, ctypes.c_char_p, ctypes.c_size_t],
         "write_image": [plan, ctypes.c_char_p, ctypes.c_size_t],
         "read_image": [plan, ctypes.c_char_p, ctypes.c_size_t],
+        "weave": [plan, plan, plan],
         "pack": [number, number, number, order],
         "read": [order, ctypes.POINTER(_CallRecord)],
         "is_tree": [plan],
@@ -432,6 +435,35 @@ class Plan:
         """
         image = _bytes(image)
         _value(_library.gaplinte_read_image(self._record, image, len(image)))
+
+    def weave(self, other: Plan) -> Plan:
+        """Weaves this plan and another into a third, for a recorder of twice the rate; both are only read.
+
+        Where t is even, the owner of round t is then that of round t / 2 in this plan, and where t is odd, that of
+        round (t - 1) / 2 in the other. Each period is doubled, and a start s becomes 2 * s for a line of this plan and
+        2 * s + 1 for a line of the other. The root has weight 2, with this plan's tree under edge 0 and the other's
+        under edge 1. The edge of a plan without lines is absent; where both have none, the woven plan is the empty
+        one. Where a root has weight 1, its line alone stands under the edge. Refused with 15 where a line is open in
+        both, else with 16 where a doubled period is above 4,095.
+
+        >>> one, other = Plan(), Plan()
+        >>> one.open(1, 4), other.open(2, 3)
+        (0, 0)
+        >>> woven = one.weave(other)
+        >>> woven.lines()
+        [OpenLine(line=1, period=8, start=0), OpenLine(line=2, period=6, start=1)]
+        >>> woven.owner(13)
+        Owner(line=2, rest=None)
+        >>> woven.open(3, 6)
+        3
+        >>> woven.weave(one)
+        Traceback (most recent call last):
+            ...
+        gaplinte.Refused: refused with 15: a line is open in both plans
+        """
+        woven = Plan()
+        _value(_library.gaplinte_weave(self._record, other._record, woven._record))
+        return woven
 
     def is_tree(self) -> bool:
         """Whether the record is a tree; where it is not, each call treats the plan as the empty one."""

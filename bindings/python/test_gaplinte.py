@@ -174,13 +174,17 @@ class Refusals(Case):
         for call in (plan.read_image, Plan.from_image):
             self.refused(13, call, b"")
             self.refused(14, call, b"\1")
+        self.refused(15, plan.weave, plan)
+        long = Plan()
+        self.assertEqual(long.open(2, 2048), 0)
+        self.refused(16, plan.weave, long)
         self.assertEqual(plan, before)
 
     def test_texts_are_those_of_the_header(self):
         header = (REPOSITORY / "include/gaplinte.h").read_text()
         texts = re.findall(r'return "(.*)";', header)
         self.assertEqual(texts[0], "not refused")
-        self.assertEqual([Refused(number).text for number in range(1, 15)], texts[1:15])
+        self.assertEqual([Refused(number).text for number in range(1, 17)], texts[1:17])
         self.assertEqual(len(set(texts)), len(texts))
         self.assertEqual(str(Refused(4)), "refused with 4: the line is not open")
 
@@ -283,6 +287,9 @@ class Records(Case):
         self.assertEqual(plan.sheet(0, 7), ((0,) * 64, 7))
         self.assertEqual(plan.to_image(), b"\0")
         self.refused(13, plan.read_image, b"")
+        self.assertEqual(booked.weave(plan).lines(), [(3, 24, 0)])
+        self.assertEqual(plan.weave(booked).lines(), [(3, 24, 1)])
+        self.assertEqual(plan.weave(plan), Plan())
         self.assertEqual(bytes(plan), numbers.tobytes())
         self.assertEqual(plan.open(3, 12), 0)
         self.assertEqual(plan, booked)
@@ -877,6 +884,115 @@ class Images(Case):
         self.assertEqual(len({record for _, record in pairs}), len(pairs))
         for written, record in pairs:
             self.assertEqual(bytes(Plan.from_image(written)), record)
+
+
+class Weaves(Case):
+    def side(self, line, *periods):
+        """Opens lines from this one on, with periods p@s."""
+        plan = Plan()
+        for line, text in enumerate(periods, line):
+            period, start = text.split("@")
+            self.assertEqual(plan.open(line, int(period)), int(start))
+        return plan
+
+    def woven(self, one, other, *paths):
+        """What two plans are woven to, with these paths, each a line and the rows above it; both stay as found."""
+        before = copy.copy(one), copy.copy(other)
+        woven = one.weave(other)
+        self.assertEqual((one, other), before)
+        self.assertEqual(woven.to_image(), image(*paths))
+        # Rounds of the two plans become even and odd ones, the last of all an odd one.
+        for round in (*range(100), *range(2**63 - 100, 2**63)):
+            owners = woven.owner(2 * round).line, woven.owner(2 * round + 1).line
+            self.assertEqual(owners, (one.owner(round).line, other.owner(round).line))
+        return woven
+
+    def not_woven(self, number, one, other):
+        """On either side."""
+        before = copy.copy(one), copy.copy(other)
+        self.refused(number, one.weave, other)
+        self.refused(number, other.weave, one)
+        self.assertEqual((one, other), before)
+
+    def test_two_plans(self):
+        one, other = self.side(1, "4@0", "6@1", "8@2", "12@3"), self.side(5, "6@0", "12@1", "12@2")
+        woven = self.woven(
+            one,
+            other,
+            (1, (2, 0), (2, 0), (2, 0)),
+            (2, (2, 0), (2, 1), (3, 0)),
+            (3, (2, 0), (2, 0), (2, 1), (2, 0)),
+            (4, (2, 0), (2, 1), (3, 1), (2, 0)),
+            (5, (2, 1), (6, 0)),
+            (6, (2, 1), (6, 1), (2, 0)),
+            (7, (2, 1), (6, 2), (2, 0)),
+        )
+        lines = [(1, 8, 0), (2, 12, 2), (3, 16, 4), (4, 24, 6), (5, 12, 1), (6, 24, 3), (7, 24, 5)]
+        self.assertEqual(woven.lines(), lines)
+
+    def test_rests(self):
+        # Line 1 has the rounds 0, 8, 16 .. and line 2 has 1, 7, 13, 19 .., which begin anew after 24.
+        woven = self.side(1, "4@0").weave(self.side(2, "3@0"))
+        rests = [0, 0, 5, 4, 3, 2, 1, 0, 0, 4, 3, 2, 1, 0, 2, 1, 0, 2, 1, 0, 4, 3, 2, 1]
+        self.assertEqual([woven.owner(round).rest or 0 for round in range(48)], rests * 2)
+        # 2**64 divided by 24 leaves 16.
+        self.assertEqual([woven.owner(LAST - back).rest for back in (0, 1, 2)], [1, 2, None])
+
+    def test_sides_without_nodes(self):
+        empty, plan = Plan(), self.side(1, "4@0", "4@1")
+        self.woven(plan, empty, (1, (2, 0), (4, 0)), (2, (2, 0), (4, 1)))
+        self.woven(empty, plan, (1, (2, 1), (4, 0)), (2, (2, 1), (4, 1)))
+        self.assertEqual(self.woven(empty, empty), Plan())
+        every, other = self.side(63, "1@0"), self.side(0, "1@0")
+        self.woven(every, empty, (63, (2, 0)))
+        self.woven(empty, every, (63, (2, 1)))
+        self.woven(every, plan, (1, (2, 1), (4, 0)), (2, (2, 1), (4, 1)), (63, (2, 0)))
+        full = self.woven(every, other, (0, (2, 1)), (63, (2, 0)))
+        self.refused(5, full.open, 1, 2)
+
+    def test_a_line_open_in_both(self):
+        for line in range(64):
+            plan = self.side(line, "4@0")
+            self.not_woven(15, plan, plan)
+            for other in (self.side(line, "1@0"), self.side(line, "4095@0"), self.side(max(line - 1, 0), "5@0", "5@1")):
+                self.not_woven(15, plan, other)
+
+    def test_doubled_periods(self):
+        for period in (2048, 2049, 4095):
+            for other in (Plan(), self.side(6, "1@0"), self.side(0, "7@0", "7@1")):
+                self.not_woven(16, self.side(5, f"{period}@0"), other)
+        longest = self.side(5, "2047@0", "2047@1")
+        self.woven(longest, Plan(), (5, (2, 0), (2047, 0)), (6, (2, 0), (2047, 1)))
+        self.woven(Plan(), longest, (5, (2, 1), (2047, 0)), (6, (2, 1), (2047, 1)))
+
+    def test_eleven_nodes(self):
+        plan = self.side(5, "1@0")
+        for times in range(1, 12):
+            plan = self.woven(Plan(), plan, (5, *[(2, 1)] * times))
+        self.assertEqual(plan.lines(), [(5, 2048, 2047)])
+        self.not_woven(16, plan, Plan())
+
+    def test_bookings_go_on(self):
+        # The node above line 3 has step 2 and offset 1, the one above line 2 has step 4 and offset 2.
+        plan = self.side(1, "4@0", "6@1").weave(self.side(3, "3@0", "3@1"))
+        before = copy.copy(plan)
+        self.refused(3, plan.open, 2, 12)
+        self.refused(5, plan.open, 5, 2)
+        self.assertEqual([plan.open(line, 12) for line in (5, 6)], [5, 6])
+        plan.close(5)
+        plan.close(6)
+        self.assertEqual(plan, before)
+        plan.close(2)
+        plan.close(1)
+        # The root is joined with the node of the other side.
+        self.assertEqual(plan.to_image(), image((3, (6, 1)), (4, (6, 3))))
+
+    def test_woven_again(self):
+        one, two, three = (self.side(line, "1@0") for line in (1, 2, 3))
+        woven = one.weave(two)
+        self.woven(woven, three, (1, (2, 0), (2, 0)), (2, (2, 0), (2, 1)), (3, (2, 1)))
+        self.woven(three, woven, (1, (2, 1), (2, 0)), (2, (2, 1), (2, 1)), (3, (2, 0)))
+        self.not_woven(15, woven, two)
 
 
 class Orders(Case):

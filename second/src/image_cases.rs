@@ -104,7 +104,7 @@ fn refused(images: Vec<Vec<u8>>) -> Vec<Step> {
 }
 
 /// `LINE: WEIGHT/EDGE WEIGHT/EDGE ..` from the root on, parted by `, `, in the image's sequence.
-fn paths_of(lines: &str) -> Vec<Path> {
+pub(crate) fn paths_of(lines: &str) -> Vec<Path> {
     let number = |text: &str| text.parse().expect("a number stands here");
     let row = |text: &str| {
         let (weight, edge) = text.split_once('/').expect("a row has two numbers");
@@ -238,7 +238,7 @@ fn fill_bits_that_are_1() -> Vec<Vec<u8>> {
 }
 
 /// (Ask 9, 3), and line numbers that do not rise (Ask 9, 8).
-const ILLEGAL_TREES: &[&str] = &[
+pub(crate) const ILLEGAL_TREES: &[&str] = &[
     // an edge as large as its weight, or larger
     "5: 6/6",
     "5: 6/7",

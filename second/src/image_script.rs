@@ -30,7 +30,6 @@ use crate::head::{self, HEAD_BYTES};
 use crate::image::{self, image};
 use crate::list_script::hexadecimal;
 use crate::lists;
-use crate::orders::{read, Order, ORDER_BYTES};
 use crate::random::Random;
 use crate::record::{drawn_write, Held};
 use crate::refusal::Refusal;
@@ -235,14 +234,8 @@ impl Composed {
 
     /// The opens and closes of a generated list.
     fn book(&mut self, shape: Shape, random: &mut Random) {
-        for order in lists::generate(shape, random).chunks_exact(ORDER_BYTES) {
-            match read([order[0], order[1], order[2]]) {
-                Ok(Order::Open { line, period }) => {
-                    self.push(Step::Call(Call::Open(line.into(), period.into())));
-                }
-                Ok(Order::Close { line }) => self.push(Step::Call(Call::Close(line.into()))),
-                Err(_) => {}
-            }
+        for call in script::calls_of(&lists::generate(shape, random)) {
+            self.push(Step::Call(call));
         }
     }
 

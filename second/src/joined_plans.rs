@@ -1,5 +1,6 @@
 //! The closes of generated lists and what they join (document 02, Ask 8). Only for tests.
 
+use crate::drawn_pairs::drawn_pair;
 use crate::lists::generate;
 use crate::naive::{is_tree, nodes, times, Placed, Time};
 use crate::naive_joining::{close, paths, plan_of, Closed};
@@ -7,6 +8,7 @@ use crate::orders::{read, run_order, Order, ORDER_BYTES};
 use crate::random::Random;
 use crate::shapes::Shape;
 use crate::tree::{gcd, Node, Plan, Under, LAST_PERIOD};
+use crate::weave::weave;
 use std::collections::{BTreeMap, BTreeSet};
 
 /// A close that was not refused.
@@ -287,4 +289,40 @@ fn closes_in_drawn_trees() {
         }
     }
     assert_often(&counts, [1_500, 3_000, 1_500, 100, 1_000, 1_000, 1_200]);
+}
+
+/// One line closes, and then another, and so on: the first closes are of nodes as the two sides had
+/// them. The root is joined where all its nodes have one weight, those of two sides or of one
+/// (document 02, Ask 10).
+#[test]
+fn closes_of_woven_plans() {
+    let mut random = Random::new(74);
+    let (mut counts, mut root_joins) = (Counts::default(), [0; 2]);
+    for shape in Shape::ALL.repeat(40) {
+        let [a, b] = drawn_pair(shape, &mut random);
+        let Ok(mut plan) = weave(&a, &b) else {
+            continue;
+        };
+        for _ in 0..6 {
+            let lines: Vec<u8> = paths(&plan).into_keys().collect();
+            if lines.is_empty() {
+                break;
+            }
+            let (before, line) = (plan.clone(), random.pick(&lines));
+            plan.close(line.into()).unwrap();
+            let close = Checked::of(before, line, plan.clone());
+            close.check();
+            counts.add(&close.closed);
+            // A root that was joined has a larger weight.
+            let is_woven_root = nodes(&close.before)[0].node.weight == 2;
+            if is_woven_root && close.closed.joins[0] > 0 {
+                let between = close.closed.between.values();
+                let edges: BTreeSet<u16> = between.map(|rows| rows[0].edge).collect();
+                root_joins[edges.len() - 1] += 1;
+            }
+        }
+    }
+    assert_often(&counts, [500, 150, 150, 5, 5, 20, 60]);
+    let [of_one_side, of_two_sides] = root_joins;
+    assert!(of_one_side > 40 && of_two_sides > 5, "{root_joins:?}");
 }

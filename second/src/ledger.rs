@@ -1,6 +1,7 @@
 //! Generated lists measured against a ledger kept apart from the tree. Only for tests.
 
 use crate::ask::{owner, owner_at, show, turns};
+use crate::drawn_pairs::drawn_pair;
 use crate::drawn_trees::drawn_tree;
 use crate::image::{image, read};
 use crate::lists::generate;
@@ -12,6 +13,7 @@ use crate::refusal::Refusal;
 use crate::shapes::Shape;
 use crate::sheet::sheet;
 use crate::tree::{Plan, Start};
+use crate::weave::weave;
 
 /// Period and start of each line, None while closed (The lists of demand 3, 8).
 struct Ledger {
@@ -37,6 +39,20 @@ impl Ledger {
                 period *= row.weight;
             }
             ledger.lines[usize::from(line)] = Some((period, start));
+        }
+        ledger
+    }
+
+    /// That of a list which begins at a woven plan: the lines of both sides, with doubled periods,
+    /// and with doubled starts or one more (document 02, Ask 10, 4 and 5).
+    fn of_sides(sides: [&Ledger; 2]) -> Ledger {
+        let mut ledger = Ledger::new();
+        for (odd, side) in (0..).zip(sides) {
+            for (line, period, start) in side.open() {
+                let times = (2 * period, 2 * start + odd);
+                let before = ledger.lines[usize::from(line)].replace(times);
+                assert_eq!(before, None, "{line}");
+            }
         }
         ledger
     }
@@ -133,6 +149,16 @@ fn read_back(plan: &Plan) -> (Plan, Ledger) {
     let ledger = Ledger::of_image(&image);
     assert_plan_agrees(&plan, &ledger);
     (plan, ledger)
+}
+
+/// Weaves the sides, whose ledgers are those of their images. None where that is refused.
+fn woven(sides: &[Plan; 2]) -> Option<(Plan, Ledger)> {
+    let [a, b] = sides;
+    let plan = weave(a, b).ok()?;
+    let [of_a, of_b] = [a, b].map(|side| Ledger::of_image(&image(side)));
+    let ledger = Ledger::of_sides([&of_a, &of_b]);
+    assert_plan_agrees(&plan, &ledger);
+    Some((plan, ledger))
 }
 
 /// Runs one list order by order; every answer, every start and the form are checked
@@ -259,12 +285,32 @@ fn lists_from_plans_that_were_read_agree_with_the_ledger() {
     }
 }
 
+/// Lists that begin at a woven plan, whose sides are what lists of the same shape left, or drawn
+/// trees, mostly with some lines closed (document 02, Ask 10, 5).
+#[test]
+fn lists_from_woven_plans_agree_with_the_ledger() {
+    let mut random = Random::new(28);
+    let mut count = 0;
+    for shape in Shape::ALL.repeat(30) {
+        let sides = drawn_pair(shape, &mut random);
+        let Some(first) = woven(&sides) else {
+            continue;
+        };
+        let list = generate(shape, &mut random);
+        check_list(&list, first, &mut random);
+        count += 1;
+    }
+    assert!(count > 80, "{count}");
+}
+
 /// Closes every line that is still open after a list (Closing a line, 2).
 #[test]
 fn emptied_plans_are_fresh() {
     let mut random = Random::new(25);
     for shape in Shape::ALL.repeat(50) {
-        for first in [empty(), read_back(&drawn_tree(&mut random))] {
+        let begun = [empty(), read_back(&drawn_tree(&mut random))];
+        let woven = woven(&drawn_pair(shape, &mut random));
+        for first in begun.into_iter().chain(woven) {
             let (mut plan, ledger) = run_checked(&generate(shape, &mut random), first);
             for (line, _, start) in ledger.open() {
                 assert_eq!(plan.close(line.into()), Ok(()));

@@ -1,6 +1,5 @@
-//! A second implementation of document 01 and, of document 02, Ask 1, Ask 3, Ask 4, Ask 5,
-//! Ask 6, Ask 7, Ask 8 and Ask 9, written from these documents alone. It writes the outputs that
-//! the proved program is tested against.
+//! A second implementation of document 01 and, of document 02, Ask 1 and Ask 3 to Ask 10, written
+//! from these documents alone. It writes the outputs that the proved program is tested against.
 //!
 //! Comments cite document 01 as (section, sentence), counted within the section; the one
 //! word before the items of Opening a line is not counted. (Refusals, 3) is refusal 3 of
@@ -18,6 +17,7 @@ pub mod border_sheets;
 pub mod border_trials;
 pub mod border_turns;
 pub mod drawn_images;
+pub mod drawn_pairs;
 pub mod drawn_reasons;
 pub mod drawn_sheets;
 pub mod drawn_shows;
@@ -44,6 +44,9 @@ pub mod sheet;
 pub mod tree;
 pub mod trial;
 pub mod walker;
+pub mod weave;
+pub mod weave_cases;
+pub mod weave_script;
 
 #[cfg(test)]
 mod cases;
@@ -58,6 +61,10 @@ mod naive_image;
 #[cfg(test)]
 mod naive_joining;
 #[cfg(test)]
+mod naive_weaving;
+#[cfg(test)]
 mod offers;
 #[cfg(test)]
 mod refused_with_5;
+#[cfg(test)]
+mod woven_plans;

@@ -1,11 +1,12 @@
 //! The commands: `book`, `long-list`, `orders`, `script`, `answers`, `list-script`, `list-answers`,
-//! `image-script` and `image-answers`.
+//! `image-script`, `image-answers`, `weave-script` and `weave-answers`.
 
 use second::long_list::MOST_ORDERS;
 use second::orders::LONGEST_LIST;
 use second::shapes::Shape;
 use second::{
     book, image_cases, image_script, list_cases, list_script, long_list, order_counts, script,
+    weave_cases, weave_script,
 };
 use std::io::{self, BufWriter, Read, Write};
 use std::process::ExitCode;
@@ -22,6 +23,9 @@ const USAGE: &str = "usage: second book
        second image-script cases
        second image-script SEED COUNT SHAPE
        second image-answers
+       second weave-script cases
+       second weave-script SEED COUNT SHAPE
+       second weave-answers
 SEED, COUNT and ORDERS (at most 21845) are decimal, SHAPE is sparse, full, deep, primes
 or joining";
 
@@ -38,6 +42,9 @@ enum Call {
     ImageCases,
     ImageScript(Drawn),
     ImageAnswers,
+    WeaveCases,
+    WeaveScript(Drawn),
+    WeaveAnswers,
 }
 
 /// SEED, COUNT and SHAPE.
@@ -67,6 +74,9 @@ fn call(arguments: &[String]) -> Option<Call> {
         ["image-script", "cases"] => Some(Call::ImageCases),
         ["image-script", seed, count, shape] => drawn(seed, count, shape).map(Call::ImageScript),
         ["image-answers"] => Some(Call::ImageAnswers),
+        ["weave-script", "cases"] => Some(Call::WeaveCases),
+        ["weave-script", seed, count, shape] => drawn(seed, count, shape).map(Call::WeaveScript),
+        ["weave-answers"] => Some(Call::WeaveAnswers),
         _ => None,
     }
 }
@@ -102,6 +112,11 @@ fn run(call: Call) -> io::Result<()> {
             image_script::write(&image_script::generated(seed, count, shape), &mut out)?;
         }
         Call::ImageAnswers => image_script::print_answers(&input(u64::MAX)?, &mut out)?,
+        Call::WeaveCases => weave_script::write(&weave_cases::cases(), &mut out)?,
+        Call::WeaveScript((seed, count, shape)) => {
+            weave_script::write(&weave_script::generated(seed, count, shape), &mut out)?;
+        }
+        Call::WeaveAnswers => weave_script::print_answers(&input(u64::MAX)?, &mut out)?,
     }
     out.flush()
 }

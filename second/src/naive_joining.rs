@@ -1,8 +1,8 @@
 //! A second way to close a line, over the shown paths alone (Closing a line, 1 and 2, and document
 //! 02, Ask 8, 2 and 3). Only for tests.
 
-use crate::ask::{show, Row, ROWS};
-use crate::record::{Record, LINE_NUMBERS};
+use crate::ask::{show, Path, Row, ROWS};
+use crate::record::Record;
 use crate::tree::Plan;
 use std::collections::{BTreeMap, BTreeSet};
 
@@ -19,13 +19,11 @@ pub(crate) fn paths(plan: &Plan) -> Paths {
 
 /// The plan that has these paths, as a record of them is read (`record.rs`).
 pub(crate) fn plan_of(paths: &Paths) -> Plan {
-    let mut record = Record::of(&Plan::empty());
-    for (&line, rows) in paths {
-        let numbers = rows.iter().flat_map(|row| [row.weight, row.edge]);
-        for (place, number) in (LINE_NUMBERS * usize::from(line)..).zip(numbers) {
-            record.write(place, number);
-        }
-    }
+    let path = |(&line, rows): (&u8, &Vec<Row>)| Path {
+        line,
+        rows: rows.clone(),
+    };
+    let record = Record::of_paths(&Vec::from_iter(paths.iter().map(path)));
     record.tree().expect("the paths are those of a tree")
 }
 

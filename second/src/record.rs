@@ -9,6 +9,7 @@ use crate::orders::{answers_length, run, ANSWER_BYTES};
 use crate::random::Random;
 use crate::refusal::Refusal;
 use crate::tree::{Node, Plan, Start, Under, LAST_LINE, LAST_PERIOD};
+use crate::weave::weave;
 use std::collections::BTreeMap;
 
 /// Numbers of one line.
@@ -16,6 +17,9 @@ pub(crate) const LINE_NUMBERS: usize = 2 * ROWS;
 
 /// Numbers in a record.
 pub const RECORD_NUMBERS: usize = LINE_NUMBERS * (LAST_LINE as usize + 1);
+
+/// Bytes of a record, two of each number.
+pub(crate) const RECORD_BYTES: usize = 2 * RECORD_NUMBERS;
 
 #[derive(Clone, Debug, PartialEq, Eq)]
 pub struct Record {
@@ -30,6 +34,32 @@ impl Record {
         Record {
             numbers: rows.flat_map(|row| [row.weight, row.edge]).collect(),
         }
+    }
+
+    /// The record of a plan that may not be a tree: of each line the rows that it has here.
+    pub(crate) fn of_paths(paths: &[Path]) -> Record {
+        let mut record = Record::of(&Plan::empty());
+        for Path { line, rows } in paths {
+            let numbers = rows.iter().flat_map(|row| [row.weight, row.edge]);
+            for (place, number) in (LINE_NUMBERS * usize::from(*line)..).zip(numbers) {
+                record.write(place, number);
+            }
+        }
+        record
+    }
+
+    /// Of each number its most significant byte first.
+    pub(crate) fn of_bytes(bytes: &[u8; RECORD_BYTES]) -> Record {
+        let (pairs, _) = bytes.as_chunks();
+        Record {
+            numbers: pairs.iter().map(|&pair| u16::from_be_bytes(pair)).collect(),
+        }
+    }
+
+    /// See `of_bytes`.
+    pub(crate) fn bytes(&self) -> Vec<u8> {
+        let numbers = self.numbers.iter();
+        numbers.flat_map(|number| number.to_be_bytes()).collect()
     }
 
     /// Writes a number over another.
@@ -115,6 +145,19 @@ impl Held {
     /// The record is that of the image's tree, or as found.
     pub fn read_image(&mut self, bytes: &[u8]) -> Result<(), Refusal> {
         image::read(&mut self.plan, bytes)?;
+        self.record = Record::of(&self.plan);
+        Ok(())
+    }
+
+    /// Weaves the plan with that of another record (document 02, Ask 10): it is side A before an
+    /// even number and side B before an odd one. The record is that of the woven plan, or as found.
+    pub(crate) fn weave(&mut self, side: u64, other: &Record) -> Result<(), Refusal> {
+        let other = other.plan();
+        self.plan = if side.is_multiple_of(2) {
+            weave(&self.plan, &other)?
+        } else {
+            weave(&other, &self.plan)?
+        };
         self.record = Record::of(&self.plan);
         Ok(())
     }

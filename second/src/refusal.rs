@@ -33,6 +33,10 @@ pub enum Refusal {
     /// A number that its field of an image cannot have, a fill bit that is 1, or a tree that is not
     /// legal (Ask 9, 7).
     ImageField = 14,
+    /// Two plans that are to be woven have a line in common (Ask 10, 6).
+    OpenInBoth = 15,
+    /// A period is too long to be doubled (Ask 10, 6).
+    DoubledPeriod = 16,
 }
 
 impl Refusal {
@@ -62,8 +66,10 @@ mod tests {
             NoLine,
             ImageLength,
             ImageField,
+            OpenInBoth,
+            DoubledPeriod,
         ];
         let numbers: Vec<u8> = all.iter().map(|refusal| refusal.number()).collect();
-        assert_eq!(numbers, [1, 2, 3, 4, 5, 6, 7, 8, 9, 10, 11, 12, 13, 14]);
+        assert_eq!(numbers, Vec::from_iter(1..=16));
     }
 }

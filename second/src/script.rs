@@ -327,11 +327,23 @@ fn turns_in_record(held: &Held, random: &mut Random) -> Option<Step> {
     })
 }
 
-fn step_of(order: [u8; ORDER_BYTES], random: &mut Random) -> Option<Step> {
-    let drawn = match read(order).ok()? {
+/// The opens and closes of a list. Of a malformed order there is none.
+pub(crate) fn calls_of(list: &[u8]) -> Vec<Step> {
+    let orders = list.chunks_exact(ORDER_BYTES);
+    orders
+        .filter_map(|order| call_of([order[0], order[1], order[2]]))
+        .collect()
+}
+
+fn call_of(order: [u8; ORDER_BYTES]) -> Option<Step> {
+    Some(match read(order).ok()? {
         Order::Open { line, period } => Step::Open(line.into(), period.into()),
         Order::Close { line } => Step::Close(line.into()),
-    };
+    })
+}
+
+fn step_of(order: [u8; ORDER_BYTES], random: &mut Random) -> Option<Step> {
+    let drawn = call_of(order)?;
     Some(match (random.below(8), drawn) {
         (0, Step::Open(line, _)) => Step::Open(line, 4_096 + random.below(61_440)),
         (1, Step::Open(_, period)) => Step::Open(64 + random.draw() / 2, period),

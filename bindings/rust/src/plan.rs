@@ -343,6 +343,37 @@ impl Plan {
     pub fn read_image(&mut self, image: &[u8]) -> Result<(), Refusal> {
         outcome(raw::read_image(&mut self.rows, image)).map(drop)
     }
+
+    /// Weaves this plan and another into a third, for a recorder of twice the rate. Where t is even, the owner of round
+    /// t is then that of round t / 2 in this plan, and where t is odd, that of round (t - 1) / 2 in the other. Each
+    /// period is doubled, and a start s becomes 2 s for a line of this plan and 2 s + 1 for a line of the other. The
+    /// root has weight 2, with this plan's tree under edge 0 and the other's under edge 1. The edge of a plan without
+    /// lines is absent; where both have none, the woven plan is the empty one. Where a root has weight 1, its line
+    /// alone stands under the edge.
+    ///
+    /// ```
+    /// use gaplinte::{Line, Owner, Period, Plan, Refusal, Round, Start};
+    ///
+    /// let (mut one, mut other) = (Plan::new(), Plan::new());
+    /// one.open(Line(1), Period(4))?;
+    /// other.open(Line(2), Period(3))?;
+    /// let mut woven = one.weave(&other)?;
+    /// assert_eq!(woven.to_string(), "line 1: period 8, start 0\nline 2: period 6, start 1");
+    /// // Round 13 is the other plan's round 6.
+    /// assert_eq!(woven.owner(Round(13)), Owner::Line(Line(2)));
+    /// assert_eq!(woven.open(Line(3), Period(6)), Ok(Start(3)));
+    /// assert_eq!(woven.weave(&one), Err(Refusal::OpenInBoth));
+    /// # Ok::<(), Refusal>(())
+    /// ```
+    ///
+    /// # Errors
+    ///
+    /// [`Refusal::OpenInBoth`] and [`Refusal::DoubledPeriodOutOfRange`], in this sequence of checks.
+    pub fn weave(&self, other: &Plan) -> Result<Plan, Refusal> {
+        let mut woven = Plan::new();
+        outcome(raw::weave(&self.rows, &other.rows, &mut woven.rows))?;
+        Ok(woven)
+    }
 }
 
 /// The empty plan.

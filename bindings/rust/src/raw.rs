@@ -73,6 +73,11 @@ mod foreign {
             image: *const u8,
             image_bytes: usize,
         ) -> i64;
+        pub safe fn gaplinte_weave(
+            a: &[u16; PLAN_NUMBERS],
+            b: &[u16; PLAN_NUMBERS],
+            woven: &mut [u16; PLAN_NUMBERS],
+        ) -> i64;
         pub safe fn gaplinte_pack(kind: u64, line: u64, period: u64, order: &mut [u8; 3]) -> i64;
         pub safe fn gaplinte_read(order: &[u8; 3], call: &mut [u16; 3]) -> i64;
         pub safe fn gaplinte_is_tree(rows: &[u16; PLAN_NUMBERS]) -> i64;
@@ -183,6 +188,16 @@ pub fn write_image(rows: &[u16; PLAN_NUMBERS], buffer: &mut [u8]) -> i64 {
 #[must_use]
 pub fn read_image(rows: &mut [u16; PLAN_NUMBERS], image: &[u8]) -> i64 {
     foreign::read_image(rows, image)
+}
+
+/// Weaves two plans, whose woven tree the third gets, whatever it was; the value is 0. Refused with 15 or 16.
+#[must_use]
+pub fn weave(
+    a: &[u16; PLAN_NUMBERS],
+    b: &[u16; PLAN_NUMBERS],
+    woven: &mut [u16; PLAN_NUMBERS],
+) -> i64 {
+    foreign::gaplinte_weave(a, b, woven)
 }
 
 /// Packs an order; the value is 0. Refused with 6, 1 or 2.

@@ -34,11 +34,15 @@ pub enum Refusal {
     ImageLength = 13,
     /// Image with a field out of range, a 1 among the bits that fill its last byte, or a tree that is not legal.
     ImageField = 14,
+    /// Weaving of two plans in which the same line is open.
+    OpenInBoth = 15,
+    /// Weaving of a plan with a line whose doubled period is above 4,095.
+    DoubledPeriodOutOfRange = 16,
 }
 
 impl Refusal {
     /// Every refusal, in rising number.
-    pub const ALL: [Refusal; 14] = [
+    pub const ALL: [Refusal; 16] = [
         Refusal::LineAbove63,
         Refusal::PeriodOutOfRange,
         Refusal::LineOpen,
@@ -53,9 +57,11 @@ impl Refusal {
         Refusal::NoLineInClass,
         Refusal::ImageLength,
         Refusal::ImageField,
+        Refusal::OpenInBoth,
+        Refusal::DoubledPeriodOutOfRange,
     ];
 
-    /// The refusal with this number, 1 to 14.
+    /// The refusal with this number, 1 to 16.
     pub fn numbered(number: u8) -> Option<Refusal> {
         Refusal::ALL
             .into_iter()
@@ -88,6 +94,8 @@ impl Refusal {
             Refusal::ImageField => {
                 "no image: a field is out of range, a bit that fills the last byte is 1, or the tree is not legal"
             }
+            Refusal::OpenInBoth => "a line is open in both plans",
+            Refusal::DoubledPeriodOutOfRange => "a doubled period is above 4095",
         }
     }
 }

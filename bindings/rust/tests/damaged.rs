@@ -123,6 +123,22 @@ fn images() {
     }
 }
 
+/// On either side it is one without lines, whatever lines and periods its rows would have.
+#[test]
+fn woven() {
+    let mut plan = Plan::new();
+    assert_eq!(plan.open(Line(3), Period(12)), Ok(Start(0)));
+    let woven = |a: &Plan, b: &Plan| a.weave(b).unwrap().to_string();
+    for found in damaged() {
+        let no_tree = found.clone();
+        assert_eq!(woven(&plan, &no_tree), "line 3: period 24, start 0");
+        assert_eq!(woven(&no_tree, &plan), "line 3: period 24, start 1");
+        assert_eq!(no_tree.weave(&no_tree), Ok(Plan::new()));
+        assert_eq!(no_tree.weave(&Plan::new()), Ok(Plan::new()));
+        assert_eq!(no_tree, found);
+    }
+}
+
 #[test]
 fn changed() {
     let mut fresh = Plan::new();

@@ -1,46 +1,21 @@
 //! Images put to the second program too: plans that both write and read, and bytes that both read, most of which are
 //! nearly an image. Every answer agrees, and so does every path that a plan has afterwards.
 
+mod both;
 mod drawn_images;
 mod fields;
 
+use both::{numbers, plans, Both};
 use drawn_images::drawn;
-use gaplinte::{raw, Plan, Refusal};
-use second::drawn_trees::drawn_tree;
+use gaplinte::{Plan, Refusal};
 use second::image as of_second;
 use second::random::Random;
-use second::record::{drawn_write, Held, Record};
+use second::record::drawn_write;
 use second::shapes::Shape;
 use second::{lists, orders};
-use std::array;
 use std::collections::{BTreeMap, BTreeSet};
 
-/// A plan in the library's record and in the second program's.
-#[derive(Clone)]
-struct Both {
-    plan: Plan,
-    held: Held,
-}
-
 impl Both {
-    fn empty() -> Both {
-        Both::of(Held::empty())
-    }
-
-    fn of(held: Held) -> Both {
-        let plan = Plan::from_record(numbers(&held.record));
-        Both { plan, held }
-    }
-
-    /// Runs a list on both. Every answer is the same.
-    fn run(&mut self, list: &[u8]) {
-        let mut answers = vec![0xee; list.len()];
-        let mut expected = answers.clone();
-        self.plan.run_list_into(list, &mut answers).unwrap();
-        self.held.run(list, &mut expected).unwrap();
-        assert_eq!(answers, expected);
-    }
-
     /// The image that both write, into a buffer that is longer by so many bytes, into one that is as long, and not into
     /// one that is shorter.
     fn image(&self, more: usize) -> Vec<u8> {
@@ -80,29 +55,6 @@ impl Both {
         }
         answer
     }
-}
-
-fn numbers(record: &Record) -> [u16; raw::PLAN_NUMBERS] {
-    array::from_fn(|place| record.number(place))
-}
-
-/// Plans of generated lists of each shape, after every 16 orders, and as many drawn trees, of which most could not be
-/// booked.
-fn plans(seed: u64, lists_of_a_shape: usize) -> Vec<Both> {
-    let mut random = Random::new(seed);
-    let mut plans = vec![Both::empty()];
-    for shape in Shape::ALL.repeat(lists_of_a_shape) {
-        let mut plan = Both::empty();
-        for orders in lists::generate(shape, &mut random).chunks(3 * 16) {
-            plan.run(orders);
-            plans.push(plan.clone());
-            let mut held = Held::empty();
-            held.plan = drawn_tree(&mut random);
-            held.record = Record::of(&held.plan);
-            plans.push(Both::of(held));
-        }
-    }
-    plans
 }
 
 /// Also into the plan that was read before.

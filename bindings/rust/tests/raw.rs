@@ -76,6 +76,22 @@ fn an_image_is_bytes() {
     assert_eq!(other, [0; raw::PLAN_NUMBERS]);
 }
 
+/// The root has weight 2, and each side's tree has weight 4. `woven` was no tree.
+#[test]
+fn a_woven_record() {
+    let mut other = [0; raw::PLAN_NUMBERS];
+    assert_eq!(raw::open(&mut other, 6, 4), 0);
+    let mut woven = [9; raw::PLAN_NUMBERS];
+    assert_eq!(raw::weave(&one_line(), &other, &mut woven), 0);
+    let mut expected = [0; raw::PLAN_NUMBERS];
+    expected[22 * 5..22 * 5 + 4].copy_from_slice(&[2, 0, 4, 0]);
+    expected[22 * 6..22 * 6 + 4].copy_from_slice(&[2, 1, 4, 0]);
+    assert_eq!(woven, expected);
+    let empty = [0; raw::PLAN_NUMBERS];
+    assert_eq!(raw::weave(&empty, &empty, &mut woven), 0);
+    assert_eq!(woven, empty);
+}
+
 /// Under edge 1 of the root, which has weight 2, stands a node of step 2.
 #[test]
 fn a_step_that_does_not_divide() {
@@ -209,5 +225,19 @@ fn refusals_of_images() {
         let mut rows = one_line();
         let read = kept(&mut rows, |rows| raw::read_image(rows, bytes));
         assert_eq!(read, answer, "{bytes:x?}");
+    }
+}
+
+#[test]
+fn refusals_of_weaving() {
+    let mut long = [0; raw::PLAN_NUMBERS];
+    assert_eq!(raw::open(&mut long, 6, 2048), 0);
+    let one = one_line();
+    for (a, b, answer) in [(&one, &one, -15), (&long, &long, -15), (&one, &long, -16)] {
+        for number in [0, 9] {
+            let mut woven = [number; raw::PLAN_NUMBERS];
+            let refused = kept(&mut woven, |woven| raw::weave(a, b, woven));
+            assert_eq!(refused, answer);
+        }
     }
 }

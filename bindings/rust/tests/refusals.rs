@@ -39,13 +39,15 @@ fn numbers() {
         Refusal::NoLineInClass,
         Refusal::ImageLength,
         Refusal::ImageField,
+        Refusal::OpenInBoth,
+        Refusal::DoubledPeriodOutOfRange,
     ]
     .map(Refusal::number);
-    assert_eq!(numbers, [1, 2, 3, 4, 5, 6, 7, 8, 9, 10, 11, 12, 13, 14]);
+    assert!(numbers.into_iter().eq(1..=16));
     assert_eq!(Refusal::ALL.map(Refusal::number), numbers);
     for number in 0..=255 {
         let refusal = Refusal::numbered(number);
-        assert_eq!(refusal.is_some(), (1..=14).contains(&number));
+        assert_eq!(refusal.is_some(), (1..=16).contains(&number));
         assert!(refusal.is_none_or(|refusal| refusal.number() == number));
     }
 }
@@ -258,6 +260,29 @@ fn no_image() {
         assert_eq!(Plan::from_image(bytes), Err(refusal));
     }
     assert_eq!(plan, one_line());
+}
+
+/// 15 comes before 16, and a plan has its lines in common with itself. Both plans are as found.
+#[test]
+fn not_woven() {
+    let (in_both, out_of_range) = (Refusal::OpenInBoth, Refusal::DoubledPeriodOutOfRange);
+    let plan = one_line();
+    let (mut same, mut long) = (Plan::new(), Plan::new());
+    assert_eq!(same.open(Line(0), Period(4095)), Ok(Start(0)));
+    assert_eq!(long.open(Line(1), Period(2048)), Ok(Start(0)));
+    let found = (same.clone(), long.clone());
+    for (one, other, refusal) in [
+        (&plan, &same, in_both),
+        (&plan, &plan, in_both),
+        (&long, &long, in_both),
+        (&plan, &long, out_of_range),
+        (&same, &long, out_of_range),
+        (&same, &Plan::new(), out_of_range),
+    ] {
+        assert_eq!(one.weave(other), Err(refusal));
+        assert_eq!(other.weave(one), Err(refusal));
+    }
+    assert_eq!((plan, (same, long)), (one_line(), found));
 }
 
 #[test]

@@ -1,5 +1,6 @@
 //! The same calls put to the second program, which is written from document 01 and, of document 02, Ask 1 and Ask 3 to
-//! Ask 9; Ask 2 changes no answer. Every answer agrees. The calls of Ask 9 are in `images.rs`.
+//! Ask 10; Ask 2 changes no answer. Every answer agrees. The calls of Ask 9 are in `images.rs`, that of Ask 10 in
+//! `weaves.rs`.
 
 mod drawn;
 

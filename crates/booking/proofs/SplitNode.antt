@@ -12,7 +12,7 @@ use mathlib.Core.List.{List}
 use lib.ListN.{length}
 use Rattle.tree.specs.declared.Row.{Row}
 use Rattle.tree.specs.Record.{row_at, path_at}
-use Rattle.paths.specs.Rules.{row_of, same_node, set_line, split_path, change_lines, split_lines}
+use Rattle.paths.specs.Rules.{row_of, same_node, set_line, split_path, set_lines, split_lines}
 use Rattle.paths.proofs.PathRest.{path_length_at_most_11}
 use Rattle.paths.proofs.PathRows.{row_in_path, weight_in_path}
 use Rattle.paths.proofs.SameNode.{same_node_goes_on, same_node_by_edges, same_node_either}
@@ -50,7 +50,7 @@ module _ {start rows : List ℕ} {L l d n : ℕ} (size : length start ≡ 1408) 
 
   -- line n is as it was
   not_reached : (k : ℕ) → k < 11 → row_at rows n k ≡ row_at start n k
-  not_reached = row_at_by_block rows start n (rw same (block_not_yet start goes_through (split_path l d) size n n (omega arith) (le_refl n)))
+  not_reached = row_at_by_block rows start n (rw same (block_not_yet start goes_through (λ M. split_path l d (path_at start M)) size n n (omega arith) (le_refl n)))
 
   path_kept : path_at rows n ≡ path_at start n
   path_kept = path_same rows start n not_reached
@@ -61,10 +61,10 @@ module _ {start rows : List ℕ} {L l d n : ℕ} (size : length start ≡ 1408) 
   -- line L still goes through the node
   way_kept : Dec (L < n) → same_node l (path_at start L) (path_at rows L) ≡ true
   way_kept (yes passed) =
-      let block = rw (through_itself, ← same) at (block_changed start goes_through (split_path l d) size n L (omega arith) passed) in
+      let block = rw (through_itself, ← same) at (block_changed start goes_through (λ M. split_path l d (path_at start M)) size n L (omega arith) passed) in
       split_same_node start rows L l d splittable.divisor_above_0 splittable.on_path (row_at_of_block rows L _ block)
   way_kept (no other) =
-      let block = rw (← same) at (block_not_yet start goes_through (split_path l d) size n L (omega arith) (omega arith)) in
+      let block = rw (← same) at (block_not_yet start goes_through (λ M. split_path l d (path_at start M)) size n L (omega arith) (omega arith)) in
       rw (path_same rows start L (row_at_by_block rows start L block)) through_itself
 
   module _ {through : Bool} (read : through ≡ same_node l (path_at rows L) (path_at rows n)) where
@@ -74,7 +74,7 @@ module _ {start rows : List ℕ} {L l d n : ℕ} (size : length start ≡ 1408) 
 
     -- a line that goes by another way is passed
     pub line_passed : through ≡ false → rows ≡ split_lines start (path_at start L) l d (n + 1)
-    unfolding change_lines
+    unfolding set_lines
     line_passed other = rw (add-one, ← test_kept, other) same
 
     pub through_splittable : through ≡ true → SplittableOnLine rows n l d
@@ -90,5 +90,5 @@ module _ {start rows : List ℕ} {L l d n : ℕ} (size : length start ≡ 1408) 
         }
 
     pub line_split : through ≡ true → {new : List ℕ} → new ≡ set_line rows n (split_path l d (path_at rows n)) → new ≡ split_lines start (path_at start L) l d (n + 1)
-    unfolding change_lines
+    unfolding set_lines
     line_split is_through done = rw (add-one, ← test_kept, is_through, ← same, ← path_kept) done

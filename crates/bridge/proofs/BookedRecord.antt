@@ -19,7 +19,7 @@ use Rattle.tree.proofs.Standing.{path_stands}
 use Rattle.tree.proofs.UnderEdge.{stands_present}
 use Rattle.tree.proofs.Opening.{MayOpen, opened_legal}
 use Rattle.paths.proofs.SameNode.{same_node_none}
-use Rattle.paths.proofs.ChangedLines.{change_lines_length, block_changed}
+use Rattle.paths.proofs.ChangedLines.{set_lines_length, block_changed}
 use Rattle.paths.proofs.Blocks.{block}
 use Rattle.bridge.proofs.RecordBlocks.{set_line_record}
 use Rattle.bridge.proofs.TreeOfRecord.{tree_of_paths}
@@ -108,7 +108,7 @@ module _ (plan : Plan) (L p : ℕ) (s : Spot) (is_legal : legal plan.rows ≡ tr
   split_rows_length = by_test (ltb s.divisor weight)
     where
       by_test : (b : Bool) → length (if b then split_lines plan.rows ps s.level s.divisor 64 else plan.rows) ≡ 1408
-      by_test true = change_lines_length plan.rows _ (split_path s.level s.divisor) long 64 (omega arith)
+      by_test true = set_lines_length plan.rows _ _ long 64 (omega arith)
       by_test false = long
 
   block_before : (M : ℕ) → M < 64 → block split_rows M ≡ numbers (rows_11 (path_after (path_at plan.rows M)))
@@ -130,7 +130,7 @@ module _ (plan : Plan) (L p : ℕ) (s : Spot) (is_legal : legal plan.rows ≡ tr
 
       by_split : (b : Bool) → block (if b then split_lines plan.rows ps s.level s.divisor 64 else plan.rows) M
           ≡ numbers (rows_11 (if same_node s.level ps rs then (if b then split_path s.level s.divisor rs else rs) else rs))
-      by_split true = block_changed plan.rows _ (split_path s.level s.divisor) long 64 M (omega arith) below ∙ by_node (same_node s.level ps rs)
+      by_split true = block_changed plan.rows _ _ long 64 M (omega arith) below ∙ by_node (same_node s.level ps rs)
       by_split false = here ∙ either (same_node s.level ps rs)
 
   -- the paths of that record

@@ -27,7 +27,7 @@ use Rattle.tree.proofs.Proper.{legal_proper}
 use Rattle.tree.proofs.Put.{put_each}
 use Rattle.paths.proofs.SameNode.{same_node_none}
 use Rattle.paths.proofs.Blocks.{block, rows_by_blocks}
-use Rattle.paths.proofs.ChangedLines.{change_lines_length, block_changed}
+use Rattle.paths.proofs.ChangedLines.{set_lines_length, block_changed}
 use Rattle.paths.proofs.JoiningPaths.{same_node_joined}
 use Rattle.bridge.proofs.Route.{route_stands, path_route, route_path, no_route_path_none}
 use Rattle.bridge.proofs.JoinedPaths.{join_along_route}
@@ -128,7 +128,7 @@ module _ (rows : List ℕ) (is_legal : legal rows ≡ true) (long : length rows 
       by_test false = here
 
   block_after : (M : ℕ) → M < 64 → block changed M ≡ numbers (rows_11 (path_after M))
-  block_after M below = block_changed rows taken (join_path l) long 64 M (omega arith) below ∙ by_test (taken M)
+  block_after M below = block_changed rows taken _ long 64 M (omega arith) below ∙ by_test (taken M)
     where
       by_test : (b : Bool) → (if b then numbers (rows_11 (join_path l (path_at rows M))) else block rows M)
           ≡ numbers (rows_11 (if b then join_path l (path_at rows M) else path_at rows M))
@@ -179,7 +179,7 @@ module _ (rows : List ℕ) (is_legal : legal rows ≡ true) (long : length rows 
 
   pub joined_record : changed ≡ (record_of joined).rows
   joined_record =
-      rows_by_blocks changed (record_of joined).rows (change_lines_length rows taken (join_path l) long 64 (omega arith)) (record_length joined) λ M below.
+      rows_by_blocks changed (record_of joined).rows (set_lines_length rows taken _ long 64 (omega arith)) (record_length joined) λ M below.
       block_after M below ∙ ap (λ (rs : List Row). numbers (rows_11 rs)) (sym (joined_path_of M below)) ∙ sym (block_of_record joined M below)
 
   pub joined_record_with : LegalWith changed joined

@@ -26,6 +26,7 @@ pub mod LegalPaths
 -- The record of the tree that a call leaves
 pub mod ClearedRecord
 pub mod RecordRoundTrip
+pub mod PlanGiven
 pub mod BookedRecord
 pub mod TrialOnPaths
 pub mod ReasonOnPaths

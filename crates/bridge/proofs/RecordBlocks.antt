@@ -6,9 +6,9 @@ use native.Mathlib.Decide.{ℕ_discrete}
 use mathlib.Core.Path.{◌≡◌, refl, sym, ◌∙◌}
 use mathlib.Core.Logic.{inl, inr}
 use mathlib.Core.List.{List}
-use lib.ListN.{length, length-append}
+use lib.ListN.{length, length-append, replicate}
 use Rattle.tree.specs.declared.Row.{Row}
-use Rattle.tree.specs.Tree.{Tree, path_of}
+use Rattle.tree.specs.Tree.{Tree, path_of, nothing, path}
 use Rattle.tree.specs.Asking.{rows_11}
 use Rattle.tree.specs.Record.{numbers, numbers_below, record_of}
 use Rattle.paths.specs.Rules.{set_line}
@@ -47,3 +47,8 @@ set_line_record start L rs t below long new others =
     each : (M : ℕ) → M < 64 → Dec (M ≡ L) → block (set_line start L rs) M ≡ numbers (rows_11 (path_of M t))
     each M M_below (yes same) = rw (same, ← new) (block_set_line_same start L rs below long)
     each M M_below (no other) = block_set_line_other start L M rs below other long ∙ others M M_below other
+
+-- a record of zeros is that of the empty plan
+pub zeros_are_empty : replicate 1408 0 ≡ (record_of nothing).rows
+unfolding record_of numbers_below numbers rows_11 path_of path
+zeros_are_empty = refl

@@ -6,11 +6,12 @@ use native.Mathlib.Decide.{dec_lt}
 use mathlib.Core.Path.{◌≡◌, refl, sym, ◌∙◌, ap, ap₂, fun_ext}
 use mathlib.Core.Bool.{true}
 use mathlib.Core.List.{List, []}
-use Rattle.std.specs.Prelude.{Option, None, Some}
+use Rattle.std.specs.Prelude.{None, Some}
 use borrow.Author.Tests.{eq-eqb}
 use Rattle.tree.specs.declared.Row.{Row}
 use Rattle.tree.specs.Tree.{Tree, nothing, line, node, present, path, is_open}
 use Rattle.tree.specs.Shape.{Edges}
+use Rattle.tree.proofs.Options.{same_option}
 use Rattle.tree.proofs.Searching.{found_some}
 use Rattle.tree.proofs.Proper.{Proper}
 use Rattle.tree.proofs.Standing.{path_below, path_of_line, stands_open}
@@ -62,11 +63,6 @@ module _ (w v : ℕ) (f g : ℕ → Tree) (same : (M : ℕ) → path M (node w f
   path_in_other : Edges w f → (e M : ℕ) (rs : List Row) → e < w → path M (f e) ≡ Some rs → path M (g e) ≡ Some rs
   path_in_other edges e M rs below h =
       (path_under_edge M v g w e rs (sym (same M) ∙ path_under M w f e rs edges below h)).1
-
-same_option : {A : Type 0} (o p : Option A) → ((a : A) → o ≡ Some a → p ≡ Some a) → ((a : A) → p ≡ Some a → o ≡ Some a) → o ≡ p
-same_option None None there back = refl
-same_option None (Some a) there back = back a refl
-same_option (Some a) p there back = sym (there a refl)
 
 pub same_paths_same_tree : (t s : Tree) → Proper t → Proper s → ((M : ℕ) → path M t ≡ path M s) → t ≡ s
 unfolding Proper path

@@ -8,10 +8,7 @@ ghost use Rattle.plan.specs.Walker.{WalkedOn};
 
 use plan::walker::{Walked, WalkerPlace};
 use reasons::Reason;
-use test_script::{
-    Step, begin, period_of, print_owner, run_close, run_open, run_owner, run_script, run_show,
-    write_number,
-};
+use test_script::{Step, period_of, print_owner, run_plan_step, run_script};
 use tree::Plan;
 
 fn run_turns(rt: &impl Print, plan: &Plan, line: u64, first: u64, rounds: u32) {
@@ -83,17 +80,11 @@ fn run_walk(rt: &impl Print, plan: &Plan, place: WalkerPlace) {
     print_walk(rt, "lent", place, lend(plan, place));
 }
 
-// One step: a call that changes the plan, the empty plan again, a number written over, or a call that asks.
-// The kind is matched as the script's number: so each stands once, beside what it runs, where an enum would name it three times.
+// One step: one that the programs share, or a call that asks.
 fn run_step(rt: &impl Print, plan: Plan, step: Step) -> Plan {
     let [first, second, third, fourth] = step.numbers;
     match step.kind {
-        0 => return run_open(rt, plan, first, second),
-        1 => return run_close(rt, plan, first),
-        2 => return begin(rt),
-        3 => return write_number(rt, plan, first, second),
-        4 => run_owner(rt, &plan, first),
-        5 => run_show(rt, &plan, first),
+        0..=5 => return run_plan_step(rt, plan, step),
         6 => run_turns(rt, &plan, first, second, (third % (1 << 32)) as u32),
         8 => run_trial(rt, &plan, first, second),
         9 => run_sheet(rt, &plan, first, (second % (1 << 16)) as u16),

@@ -13,22 +13,15 @@ use Rattle.tree.specs.declared.Row.{Row}
 use Rattle.tree.specs.Numbers.{divides, gcd}
 use Rattle.tree.specs.Tree.{row, product}
 use Rattle.tree.specs.Opening.{divisor}
-use Rattle.tree.specs.Record.{row_at, path_at, rows_in_range, legal}
+use Rattle.tree.specs.Record.{row_at, path_at, legal}
 use Rattle.paths.specs.Rules.{row_of, class_on_path, Spot, spot_start, spot_with, spot_at}
 use Rattle.paths.proofs.LegalLines.{legal_in_range}
 use Rattle.paths.proofs.PathNumbers.{Carried, carried_row, carried_below, carried_small}
 use Rattle.paths.proofs.PathRows.{row_in_path, weight_read}
-use Rattle.paths.proofs.RangeLaws.{alone_or_in_range, row_in_range}
+use Rattle.paths.proofs.RangeLaws.{alone_or_in_range, weight_at_least_2}
 use Rattle.candidates.specs.declared.spot.PathNode.{PathNode}
 use Rattle.candidates.specs.SearchedTo.{NodeOf}
 use Rattle.candidates.proofs.Spots.{offer_past_edge_0}
-
--- a path has one row, or its weights are at least 2
-weight_at_least_2 : (rs : List Row) → rows_in_range rs ≡ true → (k : ℕ) → k < length rs → 2 ≤ (row_of k rs).weight
-unfolding row_of
-weight_at_least_2 [] in_range k there = absurd (omega arith)
-weight_at_least_2 (r ∷ rs) in_range zero there = (row_in_range r rs in_range).0
-weight_at_least_2 (r ∷ rs) in_range (suc k) there = weight_at_least_2 rs (row_in_range r rs in_range).2 k (omega arith)
 
 root_alone : (rs : List Row) → rs ≡ row 1 0 ∷ [] → (k : ℕ) → k < length rs → product (take k rs) ≡ 1
 unfolding product

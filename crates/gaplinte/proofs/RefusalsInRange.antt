@@ -1,4 +1,4 @@
--- The calls are refused with 1 to 14 alone: each refusal is the number of a check, and each check has such a number.
+-- The calls are refused with 1 to 16 alone: each refusal is the number of a check, and each check has such a number.
 -- Assumes nothing.
 use Rattle.std.specs.Prelude.{Option, None, Some}
 use Prim.Native.Nat.{ℕ, zero, suc}
@@ -10,6 +10,7 @@ use Rattle.tree.specs.Refusals.{Check, refuse, first_refusal, line_refusal, reas
 use Rattle.tree.specs.Calls.{Outcome, gives, refuses, gives_unless, refusal_of}
 use Rattle.tree.specs.Bits.{bits_of}
 use Rattle.tree.specs.ImageReading.{and_then, read_field, read_row, read_path, read_line, read_lines, read_plan, behind_refusal, read_outcome}
+use Rattle.tree.specs.Weaving.{weave_refusal}
 use Rattle.orders.specs.Packing.{packing_refusal}
 use Rattle.lists.specs.Lists.{list_refusal}
 use Rattle.lists.proofs.AnswersFit.{Small}
@@ -54,6 +55,10 @@ pub reason_refusal_in_range : (p : ℕ) (a : Place) (i : ℕ) (t : Tree) → Ref
 unfolding EachInRange InRange reason_refusal
 reason_refusal_in_range p a i t =
     first_in_range _ ((omega arith, omega arith), ((omega arith, omega arith), ((omega arith, omega arith), ((omega arith, omega arith), tt))))
+
+pub weave_refusal_in_range : (a b : Tree) → RefusalInRange (weave_refusal a b)
+unfolding EachInRange InRange weave_refusal
+weave_refusal_in_range a b = first_in_range _ ((omega arith, omega arith), ((omega arith, omega arith), tt))
 
 -- Reading an image
 

@@ -1,4 +1,4 @@
--- An answer of a call tells its outcome, since no refusal is 0: the calls refuse with 1 to 14 alone, and every value is below 2^32.
+-- An answer of a call tells its outcome, since no refusal is 0: the calls refuse with 1 to 16 alone, and every value is below 2^32.
 -- Assumes nothing.
 use Rattle.std.specs.Prelude.{if◌then◌else◌, Option, None, Some}
 use Prim.Native.Nat.{ℕ, zero, suc, ◌-◌, ◌^◌, ◌%◌, ◌<◌, ◌≤◌}
@@ -21,6 +21,7 @@ use Rattle.tree.specs.Calls.{Call, open_line, close_line, refusal, reply, answer
 use Rattle.tree.specs.Trial.{trial_outcome}
 use Rattle.tree.specs.Image.{write_outcome}
 use Rattle.tree.specs.ImageReading.{read_outcome}
+use Rattle.tree.specs.Weaving.{weave_outcome}
 use Rattle.tree.specs.Record.{legal}
 use Rattle.tree.proofs.Standing.{start_below_period}
 use Rattle.tree.proofs.Ownership.{turns_at_most}
@@ -40,8 +41,9 @@ use Rattle.gaplinte.specs.Answer.{answer_number, zero_value, outcome_told, InRan
 use Rattle.gaplinte.specs.Served.{change_outcome, ChangeServed, owner_value, owner_outcome, tree_outcome, ShowServed, TrialServed, reason_number, SheetServed, walk_value, place_of, WalkServed, list_outcome, ListServed}
 use Rattle.gaplinte.specs.OrdersServed.{bytes_in, PackServed, ReadServed}
 use Rattle.gaplinte.specs.ImagesServed.{ImageWriteServed, ImageReadServed}
+use Rattle.gaplinte.specs.WeavingServed.{WeaveServed}
 use Rattle.gaplinte.proofs.ValuesBelow.{owner_at_most, reason_at_most}
-use Rattle.gaplinte.proofs.RefusalsInRange.{RefusalInRange, small_in_range, EachInRange, first_in_range, line_refusal_in_range, list_refusal_in_range, packing_refusal_in_range, reason_refusal_in_range, image_in_range}
+use Rattle.gaplinte.proofs.RefusalsInRange.{RefusalInRange, small_in_range, EachInRange, first_in_range, line_refusal_in_range, list_refusal_in_range, packing_refusal_in_range, reason_refusal_in_range, weave_refusal_in_range, image_in_range}
 
 -- An outcome in range is told
 
@@ -193,3 +195,7 @@ write_image_tells rows before after r served =
 
 pub read_image_tells : (bytes before after : List ℕ) (r : ℤ) → ImageReadServed bytes before after r → Tells (zero_value (read_outcome bytes)) r
 read_image_tells bytes before after r served = tells _ r (read_in_range (read_outcome bytes) (image_in_range bytes)) served.answer_is
+
+pub weave_tells : (a b before after : List ℕ) (r : ℤ) → WeaveServed a b before after r → Tells (zero_value (weave_outcome (tree_of_rows a) (tree_of_rows b))) r
+unfolding weave_outcome
+weave_tells a b before after r served = tells _ r (zero_in_range _ _ (weave_refusal_in_range _ _)) served.answer_is

@@ -30,10 +30,10 @@ unfoldable pub outcome_told : ℤ → Outcome ℕ
 outcome_told (pos n) = gives n
 outcome_told (negsuc n) = refuses (suc n)
 
--- A refusal is one of the numbers of documents 01 and 02, 1 to 14, as demand 1 asks of every call. A value is below 2^32.
+-- A refusal is one of the numbers of documents 01 and 02, 1 to 16, as demand 1 asks of every call. A value is below 2^32.
 unfoldable pub InRange : Outcome ℕ → Type 0
 InRange (gives n) = n < 2 ^ 32
-InRange (refuses n) = (1 ≤ n) × (n ≤ 14)
+InRange (refuses n) = (1 ≤ n) × (n ≤ 16)
 
 -- an answer tells its outcome, and the outcome is in range
 pub record Tells (o : Outcome ℕ) (r : ℤ) : Type 0 where

@@ -3,3 +3,4 @@ pub mod Answer
 pub mod Served
 pub mod OrdersServed
 pub mod ImagesServed
+pub mod WeavingServed

@@ -14,3 +14,4 @@ pub mod sheet;
 pub mod show;
 pub mod trial;
 pub mod walk;
+pub mod weave;

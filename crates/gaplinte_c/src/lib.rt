@@ -12,3 +12,4 @@ pub mod sheet;
 pub mod show;
 pub mod trial;
 pub mod walk;
+pub mod weave;

@@ -46,7 +46,7 @@ pub record ByTheRules (t : Tree) (entries : List Entry) (last : Tree) : Type 0 w
   pub answers : entries ≡ answered_from t (calls_of entries)
   pub tree : last ≡ reference_from t (calls_of entries)
 
-ran_from : (entries : List Entry) (first last : Plan) → Ran first entries last → ByTheRules (tree_of first) entries (tree_of last)
+pub ran_from : (entries : List Entry) (first last : Plan) → Ran first entries last → ByTheRules (tree_of first) entries (tree_of last)
 unfolding Ran calls_of answered_from reference_from
 ran_from [] first last ran = record { answers = refl; tree = ap tree_of ran }
 ran_from (x ∷ xs) first last ran =

@@ -8,7 +8,6 @@ use mathlib.Core.List.{List, [], ◌∷◌}
 use Rattle.std.specs.Prelude.{Option, None, Some}
 use lib.IntN.{ℤ, pos, neg_ℤ}
 use lib.ListN.{replicate}
-use Rattle.tree.specs.declared.Plan.{Plan}
 use Rattle.tree.specs.Tree.{Tree, nothing}
 use Rattle.tree.specs.Asking.{OwnerOrRest, owned_by, idle_for, owner_or_rest}
 use Rattle.tree.specs.Calls.{Call, open_line, close_line, refused, refusal, reply, answer_unless, answer, gives}
@@ -19,7 +18,7 @@ use Rattle.tree.proofs.Resting.{owned_exactly}
 use Rattle.bridge.specs.Rows.{tree_of_rows, CarriedOut}
 use Rattle.bridge.proofs.TreeOfRecord.{legal_on_record}
 use Rattle.plan.specs.Meets.{empty_plan}
-use Rattle.plan.proofs.Changes.{empty_rows}
+use Rattle.bridge.proofs.RecordBlocks.{zeros_are_empty}
 use Rattle.lists.proofs.AnswersFit.{Small, refusal_small}
 use Rattle.gaplinte.specs.Answer.{answer_number}
 use Rattle.gaplinte.specs.Served.{change_outcome, ChangeServed, owner_value, owner_outcome}
@@ -63,11 +62,8 @@ ran_on_rows (x ∷ xs) first last ran =
 
 -- Demand 3
 
-zeros_are_empty : replicate 1408 0 ≡ empty_plan.rows
-zeros_are_empty = ap (λ (plan : Plan). plan.rows) (empty_rows (replicate 1408 0) refl)
-
 pub demand_3_of_library : Demand3OfLibrary
-unfolding Demand3OfLibrary Demand3OfRows
+unfolding Demand3OfLibrary Demand3OfRows empty_plan
 demand_3_of_library calls rows ran =
     demand_3_of_rows (entries_told calls) rows (rw zeros_are_empty at (ran_on_rows calls (replicate 1408 0) rows ran))
 

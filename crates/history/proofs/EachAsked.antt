@@ -55,6 +55,8 @@ refusal_12 refusal.NoClass = refl
 refusal_12 refusal.NoLineInClass = refl
 refusal_12 refusal.ImageLength = refl
 refusal_12 refusal.ImageField = refl
+refusal_12 refusal.OpenInBoth = refl
+refusal_12 refusal.DoubledPeriodOutOfRange = refl
 
 -- At one node
 

@@ -6,9 +6,8 @@ use Prim.Native.Nat.{ℕ}
 use Rattle.tree.specs.Tree.{Tree}
 use Rattle.tree.specs.Calls.{gives}
 use Rattle.tree.specs.ImageReading.{read_outcome}
-use Rattle.bridge.specs.Rows.{tree_of_rows}
+use Rattle.bridge.specs.Rows.{tree_of_rows, rows_given}
 use Rattle.bridge.proofs.RecordRoundTrip.{record_has_tree}
-use Rattle.images.specs.Images.{rows_read}
 use Rattle.images.proofs.ReadsExactly.{tree_read_legal}
 use Rattle.history.specs.FromPlan.{FromPlanOfCalls, FromPlanOfRows, FromPlanOfLibrary}
 use Rattle.history.specs.OrdersRun.{FromPlanOfLists}
@@ -18,8 +17,8 @@ use Rattle.history.proofs.Demand3OfLists.{from_plan_of_lists}
 
 module _ (bytes : List ℕ) (t : Tree) (read : read_outcome bytes ≡ gives t) where
   -- the record that was read into has the image's tree
-  tree_read_in : (before first : List ℕ) → first ≡ rows_read (read_outcome bytes) before → tree_of_rows first ≡ t
-  unfolding tree_of_rows rows_read
+  tree_read_in : (before first : List ℕ) → first ≡ rows_given (read_outcome bytes) before → tree_of_rows first ≡ t
+  unfolding tree_of_rows rows_given
   tree_read_in before first rows_are = rw (rows_are, read) (record_has_tree t (tree_read_legal bytes t read))
 
 pub from_image_of_calls : FromImageOfCalls

@@ -7,6 +7,7 @@ pub mod FromPlan
 pub mod TriedInLibrary
 pub mod Demand3OfLists
 pub mod FromImage
+pub mod FromWoven
 pub mod Replaying
 pub mod Explained
 pub mod EachAsked

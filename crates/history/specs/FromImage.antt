@@ -1,14 +1,13 @@
 -- Demand 3 of lists that begin at a plan that was read from an image (document 02, Ask 9): the reference tree is at first the image's tree, and the ledger
 -- begins with its lines. That tree is what the bytes give (`read_outcome` of crate tree); the record that was read into is not asked.
 -- Assumes nothing.
-use Rattle.std.specs.Prelude.{ℕ, ◌≡◌, List, Result, MatchResult, None, ℤ}
+use Rattle.std.specs.Prelude.{ℕ, ◌≡◌, List, Result, None, ℤ}
 use Rattle.tree.specs.declared.Plan.{Plan}
 use Rattle.tree.specs.declared.refusal.Refusal.{Refusal}
 use Rattle.tree.specs.Tree.{Tree}
-use Rattle.tree.specs.Calls.{gives, refuses}
-use Rattle.tree.specs.Answered.{number_of}
+use Rattle.tree.specs.Calls.{gives}
 use Rattle.tree.specs.Lists.{Entry}
-use Rattle.tree.specs.Record.{tree_of, record_of}
+use Rattle.tree.specs.Record.{tree_of}
 use Rattle.tree.specs.ImageReading.{read_outcome}
 use Rattle.bridge.specs.Rows.{tree_of_rows}
 use Rattle.lists.specs.Runs.{ListRan}
@@ -20,7 +19,7 @@ use Rattle.history.specs.RanOnRows.{RanOnRows}
 use Rattle.history.specs.RanInLibrary.{Answered, entries_told, RanInLibrary}
 use Rattle.history.specs.FromPlan.{ClaimsFrom, ClaimsInLibrary}
 use Rattle.history.specs.OrdersRun.{Demand3OfOrders}
-use Rattle.history.specs.Replay.{ReplaysFrom}
+use Rattle.history.specs.Replay.{ReplaysFromGiven}
 
 -- (Ask 9, 6) Bytes that give the tree t were read into a plan, whatever it was before, and calls by value were run from the plan that was read.
 unfoldable pub FromImageOfCalls : Type 0
@@ -52,14 +51,6 @@ FromImageOfLists =
 
 -- One run of the real calls
 
--- (Ask 9, 6) Bytes were read, and calls run from the plan that they gave: the claim is of the tree that the bytes give.
-pub record ReplaysRead (bytes numbers before after : List ℕ) (replayed : Replayed) : Type 0 where
-  pub tree : Tree
-  pub read : read_outcome bytes ≡ gives tree
-  pub replays : ReplaysFrom (record_of tree) numbers before after replayed.count replayed.plan
-  pub claims : ClaimsFrom tree replays.first.entries (tree_of replayed.plan)
-
--- the same, or the bytes were refused, and nothing was run or written
+-- (Ask 9, 4, 6) Bytes were read, and calls run from the plan that they gave, or the bytes were refused.
 unfoldable pub ReplaysImage : List ℕ → List ℕ → List ℕ → List ℕ → Result Replayed Refusal → Type 0
-ReplaysImage bytes numbers before after a =
-    MatchResult a (ReplaysRead bytes numbers before after) (λ e. (read_outcome bytes ≡ refuses (number_of e)) × (after ≡ before))
+ReplaysImage bytes = ReplaysFromGiven (read_outcome bytes)

@@ -7,5 +7,6 @@ pub mod TriedInLibrary
 pub mod OrdersRun
 pub mod Replay
 pub mod FromImage
+pub mod FromWoven
 pub mod Explained
 pub mod Asked

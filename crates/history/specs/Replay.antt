@@ -1,14 +1,18 @@
 -- What `replay` makes of a lent list of numbers: the calls that it runs, the answers that it writes, and the claim about them.
 -- Assumes nothing.
-use Rattle.std.specs.Prelude.{ℕ, zero, suc, ◌+◌, ◌*◌, ◌/◌, min, ◌≡◌, List, [], ◌∷◌, ◌++◌, eqb, length, get_or, drop, if◌then◌else◌}
+use Rattle.std.specs.Prelude.{ℕ, zero, suc, ◌+◌, ◌*◌, ◌/◌, min, ◌≡◌, List, [], ◌∷◌, ◌++◌, eqb, length, get_or, drop, if◌then◌else◌, Result, MatchResult}
 use Rattle.tree.specs.declared.Plan.{Plan}
 use Rattle.tree.specs.declared.Sheet.{Sheet}
-use Rattle.tree.specs.Calls.{Call, open_line, close_line, Answer, booked, done, refused}
+use Rattle.tree.specs.declared.refusal.Refusal.{Refusal}
+use Rattle.tree.specs.Tree.{Tree}
+use Rattle.tree.specs.Calls.{Call, open_line, close_line, Answer, booked, done, refused, Outcome, gives, refuses}
+use Rattle.tree.specs.Answered.{number_of}
 use Rattle.tree.specs.Lists.{Entry, calls_of, ledger_of}
 use Rattle.tree.specs.Demand3.{Demand3}
-use Rattle.tree.specs.Record.{tree_of}
+use Rattle.tree.specs.Record.{tree_of, record_of}
 use Rattle.plan.specs.declared.ask.OwnerAnswer.{OwnerAnswer}
 use Rattle.plan.specs.Meets.{empty_plan}
+use Rattle.history.specs.declared.Replayed.{Replayed}
 use Rattle.history.specs.Ran.{Ran, NamesOwner, TellsRest}
 use Rattle.history.specs.Sheets.{SheetFor}
 use Rattle.history.specs.FromPlan.{ClaimsFrom}
@@ -47,6 +51,19 @@ pub record ReplaysFrom (at_first : Plan) (numbers before after : List ℕ) (coun
   pub count_is : count ≡ min (length numbers / 3) (length before)
   pub first : RanFirst at_first numbers before after count plan
   pub claims : ClaimsFrom (tree_of at_first) first.entries (tree_of plan)
+
+-- (Ask 9, 6; Ask 10, 5) The same from the plan that a call gave, where the rules say that it gives a tree: the claim is of that tree.
+pub record ReplaysGiven (o : Outcome Tree) (numbers before after : List ℕ) (replayed : Replayed) : Type 0 where
+  pub tree : Tree
+  pub given : o ≡ gives tree
+  pub count_is : replayed.count ≡ min (length numbers / 3) (length before)
+  pub first : RanFirst (record_of tree) numbers before after replayed.count replayed.plan
+  pub claims : ClaimsFrom tree first.entries (tree_of replayed.plan)
+
+-- So it is, or that call was refused, and nothing was run or written.
+unfoldable pub ReplaysFromGiven : Outcome Tree → List ℕ → List ℕ → List ℕ → Result Replayed Refusal → Type 0
+ReplaysFromGiven o numbers before after a =
+    MatchResult a (ReplaysGiven o numbers before after) (λ e. (o ≡ refuses (number_of e)) × (after ≡ before))
 
 -- From the empty plan: demand 3 holds of them and of the plan that they left.
 pub record Replays (numbers before after : List ℕ) (count : ℕ) (plan : Plan) : Type 0 where

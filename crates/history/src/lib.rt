@@ -5,6 +5,7 @@ ghost use Rattle.std.specs.Prelude.{◌≡◌};
 ghost use Rattle.lists.specs.Runs.{answer_in};
 ghost use Rattle.plan.specs.Meets.{Meets};
 ghost use Rattle.history.specs.FromImage.{ReplaysImage};
+ghost use Rattle.history.specs.FromWoven.{ReplaysWoven};
 ghost use Rattle.history.specs.Replay.{call_of, answer_number, ReplaysFrom, Replays, ReplaysAndOwns, ReplaysAndAddsUp};
 
 pub mod asked;
@@ -79,13 +80,26 @@ pub fn replay(calls: &[u64], answers: &mut [u64]) -> Replayed
     replay_from(plan::change::empty(), calls, answers)
 }
 
-// Reads an image, and runs them on the plan that it gives. Refused as reading is, and then nothing is run or written.
+// Reads an image, and runs the calls on the plan that it gives. Refused as reading is, and then nothing is run or written.
 pub fn replay_image(image: &[u8], calls: &[u64], answers: &mut [u64]) -> Result<Replayed, Refusal>
     ensures { ReplaysImage image.now calls.now answers.old answers.new result }
 {
     let read = plan::image::read_image(plan::change::empty(), image);
     read.answer?;
     Ok(replay_from(read.plan, calls, answers))
+}
+
+// Weaves two plans, and runs the calls on the woven plan. Refused as weaving is, and then nothing is run or written.
+pub fn replay_woven(
+    a: &Plan,
+    b: &Plan,
+    calls: &[u64],
+    answers: &mut [u64],
+) -> Result<Replayed, Refusal>
+    ensures { ReplaysWoven a.now b.now calls.now answers.old answers.new result }
+{
+    let first = plan::weave::weave(a, b)?;
+    Ok(replay_from(first, calls, answers))
 }
 
 // The owner of a round, or its rest, in the plan that the lent list leaves.

@@ -17,12 +17,12 @@ use Rattle.tree.specs.Calls.{gives, gives_unless}
 use Rattle.tree.specs.Bits.{number_at, bytes_for, bytes_of, bits_of}
 use Rattle.tree.specs.Image.{PlanLine, image_bits, image}
 use Rattle.tree.specs.ImageReading.{Part, and_then, legal_lines, tree_of_lines, behind_refusal, read_plan, read_outcome}
-use Rattle.tree.proofs.Checks.{none_strikes}
+use Rattle.tree.proofs.Checks.{none_strikes, unless_given}
 use Rattle.images.proofs.NumberAt.{number_behind}
 use Rattle.images.proofs.BitsOfBytes.{EachBelow, bits_length, bits_are_bits, number_of_zeros, zeros_there, bytes_length, bytes_are_bytes, fill_length, bits_back, same_bytes}
 use Rattle.images.proofs.LineFits.{AllFit}
 use Rattle.images.proofs.LinesOfTree.{lines_tree_legal, lines_of_their_tree}
-use Rattle.images.proofs.PartsRead.{then_given, unless_given}
+use Rattle.images.proofs.PartsRead.{then_given}
 use Rattle.images.proofs.ImageBits.{image_is_bits}
 use Rattle.images.proofs.ReadBack.{lines_read_back, LinesStand, lines_stand}
 

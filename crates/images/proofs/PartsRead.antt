@@ -1,6 +1,5 @@
 -- What a part that was read says of the bits, which bits give a field, and that a field is refused where bits of it are missing.
 -- Assumes nothing.
-use Rattle.std.specs.Prelude.{Option, None, Some}
 use Prim.Native.Nat.{ℕ, ◌+◌, ◌<◌, ◌≤◌}
 use mathlib.Core.Path.{◌≡◌, refl}
 use mathlib.Core.Bool.{◌||◌}
@@ -12,19 +11,13 @@ use Rattle.tree.specs.Refusals.{first_refusal}
 use Rattle.tree.specs.Calls.{Outcome, gives, refuses, gives_unless}
 use Rattle.tree.specs.Bits.{number_at}
 use Rattle.tree.specs.ImageReading.{Part, and_then, read_field}
-use Rattle.tree.proofs.Checks.{none_strikes, neither}
+use Rattle.tree.proofs.Checks.{none_strikes, neither, unless_given}
 
 -- what comes behind a part was given where both were
 pub then_given : {A B : Type 0} (o : Outcome A) (go : A → Outcome B) (b : B) → and_then o go ≡ gives b → (a : A) × (o ≡ gives a) × (go a ≡ gives b)
 unfolding and_then
 then_given (gives a) go b h = (a, refl, h)
 then_given (refuses n) go b h = absurd (cc)
-
--- what is given was not refused
-pub unless_given : {A : Type 0} (refusal : Option ℕ) (a b : A) → gives_unless refusal a ≡ gives b → (refusal ≡ None) × (a ≡ b)
-unfolding gives_unless
-unless_given None a b h = (refl, cc)
-unless_given (Some n) a b h = absurd (cc)
 
 pub record FieldRead (width least most : ℕ) (bits : List ℕ) (at : ℕ) (p : Part ℕ) : Type 0 where
   pub value_is : p.value ≡ number_at width at bits

@@ -3,7 +3,7 @@ ghost use Rattle.std.specs.Prelude.{◌+◌, ◌*◌, ◌≡◌, ◌≤◌};
 ghost use Rattle.tree.specs.Bits.{bits_of};
 ghost use Rattle.tree.specs.ImageReading.{read_field, read_row, read_lines, read_plan, read_outcome};
 ghost use Rattle.tree.specs.Answered.{outcome_of};
-ghost use Rattle.images.specs.Images.{plan_read};
+ghost use Rattle.bridge.specs.Rows.{plan_given};
 ghost use Rattle.images.specs.Parts.{most_line_bits, most_bits, part_told, PathRead, LineRead, LinesIn};
 
 use crate::bytes::number_at;
@@ -133,7 +133,7 @@ fn read_plan(bytes: &[u8], rows: &mut [u16; 1408]) -> Result<LinesRead, Refusal>
 // first. After the last one a further byte is refused with 13, a 1 in the rest of the last byte with 14, and lines that make no
 // legal tree with 14.
 pub fn read_image(bytes: &[u8]) -> Result<Plan, Refusal>
-    ensures { outcome_of (λ plan. plan) result ≡ plan_read (read_outcome bytes.now) }
+    ensures { outcome_of (λ plan. plan) result ≡ plan_given (read_outcome bytes.now) }
 {
     let mut plan = Plan { rows: [0; 1408] };
     let lines = read_plan(bytes, &mut plan.rows)?;

@@ -8,9 +8,7 @@ ghost use Rattle.std.specs.Prelude.{◌≤◌};
 
 use plan::record::PlanRecord;
 use std::io::Read;
-use test_script::{
-    Step, begin, run_close, run_open, run_owner, run_script, run_show, write_number,
-};
+use test_script::{Step, run_plan_step, run_script};
 use tree::Plan;
 use tree::refusal::Refusal;
 
@@ -100,17 +98,11 @@ fn run_read(rt: &impl Print, script: &mut impl Read, plan: Plan, step: Step) -> 
     })
 }
 
-// One step: a call that changes the plan, the empty plan again, a number written over, a question, or an image.
-// The kind is matched as the script's number: so each stands once, beside what it runs, where an enum would name it three times.
+// One step: one that the programs share, or an image.
 fn run_step(rt: &impl Print, script: &mut impl Read, plan: Plan, step: Step) -> Option<Plan> {
     let [first, second, _, _] = step.numbers;
     match step.kind {
-        0 => return Some(run_open(rt, plan, first, second)),
-        1 => return Some(run_close(rt, plan, first)),
-        2 => return Some(begin(rt)),
-        3 => return Some(write_number(rt, plan, first, second)),
-        4 => run_owner(rt, &plan, first),
-        5 => run_show(rt, &plan, first),
+        0..=5 => return Some(run_plan_step(rt, plan, step)),
         11 => run_write(rt, &plan, first, second),
         _ => return run_read(rt, script, plan, step),
     }

@@ -9,7 +9,7 @@ use mathlib.Core.Bool.{Bool, true, false}
 use mathlib.Core.List.{List}
 use lib.ListN.{length}
 use Rattle.tree.specs.Record.{row_at, path_at}
-use Rattle.paths.specs.Rules.{set_line, change_lines, join_path}
+use Rattle.paths.specs.Rules.{set_line, set_lines, change_lines, join_path}
 use Rattle.paths.proofs.Blocks.{row_at_by_block}
 use Rattle.paths.proofs.ChangedLines.{block_not_yet}
 use Rattle.booking.proofs.PathRows.{path_same, rest_unused_same}
@@ -19,7 +19,7 @@ use Rattle.joining.specs.Joinable.{JoinableOnLine, Joinable}
 module _ {start rows : List ℕ} {taken : ℕ → Bool} {l n : ℕ} (size : length start ≡ 1408) (joinable : Joinable start taken l) (below : n < 64) (same : rows ≡ change_lines start taken (join_path l) n) where
   -- line n is as it was
   not_reached : (k : ℕ) → k < 11 → row_at rows n k ≡ row_at start n k
-  not_reached = row_at_by_block rows start n (rw same (block_not_yet start taken (join_path l) size n n (omega arith) (le_refl n)))
+  not_reached = row_at_by_block rows start n (rw same (block_not_yet start taken _ size n n (omega arith) (le_refl n)))
 
   path_kept : path_at rows n ≡ path_at start n
   path_kept = path_same rows start n not_reached
@@ -34,9 +34,9 @@ module _ {start rows : List ℕ} {taken : ℕ → Bool} {l n : ℕ} (size : leng
       }
 
   pub line_joined : taken n ≡ true → {new : List ℕ} → new ≡ set_line rows n (join_path l (path_at rows n)) → new ≡ change_lines start taken (join_path l) (n + 1)
-  unfolding change_lines
+  unfolding set_lines
   line_joined is_taken done = rw (add-one, is_taken, ← same, ← path_kept) done
 
   pub line_passed : taken n ≡ false → rows ≡ change_lines start taken (join_path l) (n + 1)
-  unfolding change_lines
+  unfolding set_lines
   line_passed other = rw (add-one, other) same

@@ -10,7 +10,7 @@ use Rattle.tree.specs.declared.Row.{Row}
 use Rattle.tree.specs.Closing.{join, join_times, join_fully}
 use Rattle.tree.specs.Record.{path_at}
 use Rattle.paths.specs.Rules.{change_lines, join_path, weight_below_on_paths}
-use Rattle.paths.proofs.ChangedLines.{change_lines_length}
+use Rattle.paths.proofs.ChangedLines.{set_lines_length}
 use Rattle.paths.proofs.LegalLines.{legal_rest_unused, legal_in_range}
 use Rattle.bridge.specs.Rows.{tree_of_rows}
 use Rattle.bridge.specs.Joining.{at_level, TakesThrough}
@@ -58,7 +58,7 @@ module _ (start rows : List ℕ) (ps : List Row) (common : List ℕ) (l i : ℕ)
       let is_legal = so_far.common_still.is_legal in
       let after = joined_record_with rows is_legal so_far.size ps l (through common l) takes_here v weight in
       record {
-        size = change_lines_length rows (through common l) (join_path l) so_far.size 64 (omega arith);
+        size = set_lines_length rows (through common l) _ so_far.size 64 (omega arith);
         common_still = record {
           is_legal = after.is_legal;
           takes = λ k below M M_below. so_far.common_still.takes k below M M_below ∙ sym (takes_still rows is_legal so_far.size ps l (through common l) takes_here v weight k (omega arith) M M_below);

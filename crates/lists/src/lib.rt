@@ -6,7 +6,7 @@ ghost use Rattle.tree.specs.Answered.{refusal_in};
 ghost use Rattle.tree.specs.Record.{legal};
 ghost use Rattle.bridge.specs.Rows.{plan_of};
 ghost use Rattle.orders.specs.Order.{order_of};
-ghost use Rattle.lists.specs.Lists.{orders_of, answer_word, high_byte, low_byte, length_refused, list_refusal};
+ghost use Rattle.lists.specs.Lists.{orders_of, result_field, answer_word, high_byte, low_byte, length_refused, list_refusal};
 ghost use Rattle.lists.specs.Runs.{answer_in, OrderRan, Runnable, OrdersRan, CheckedRan, ListRan};
 
 use orders::{Bytes, Order};
@@ -31,7 +31,9 @@ fn run_order(rows: &mut [u16; 1408], bytes: Bytes) -> Result<Option<Start>, Refu
 }
 
 // An answer in one word: result 4 bits, which is 0 or the refusal, then start 12 bits, which is 0 unless a line was opened.
+// That a refusal fits 4 bits is asked here: those of an order are 6 at most, and document 02 has one that does not fit, 16.
 fn answer_word(answer: Result<Option<Start>, Refusal>) -> u16
+    requires { result_field (answer_in answer) < 16 }
     ensures { result ≡ answer_word (answer_in answer) }
 {
     match answer {
@@ -43,7 +45,8 @@ fn answer_word(answer: Result<Option<Start>, Refusal>) -> u16
 
 // Writes an answer's two bytes, the first one highest.
 fn write_answer(answers: &mut [u8], at: usize, answer: Result<Option<Start>, Refusal>)
-    requires { at + 1 < length answers.old }
+    requires room { at + 1 < length answers.old }
+    requires result { result_field (answer_in answer) < 16 }
     ensures { answers.new ≡ take at answers.old ++ (high_byte (answer_in answer) ∷ low_byte (answer_in answer) ∷ []) ++ drop (at + 2) answers.old }
 {
     answers[at..at + 2].copy_from_slice(&answer_word(answer).to_be_bytes());

@@ -14,6 +14,7 @@ use borrow.Author.Tests.{lt-ltb, le-ltb, le-leb, lt-leb, eq-eqb, ne_eqb}
 use Rattle.tree.specs.declared.Row.{Row}
 use Rattle.tree.specs.Tree.{product}
 use Rattle.tree.specs.Record.{row_at, path_at, rows_in_range, alone, path_in_range}
+use Rattle.tree.proofs.AlonePaths.{not_alone_by_weight}
 use Rattle.paths.specs.Answers.{rows_checked, path_checked}
 use Rattle.paths.proofs.PathRest.{zero_or_not, path_rest, path_rest_start, path_rest_row, path_rest_end, path_rest_none, path_rest_product}
 
@@ -97,11 +98,6 @@ module _ {rows : List ℕ} {L m k : ℕ} (checked : InRange rows L m k) where
 first_row : (rows : List ℕ) (L : ℕ) {w : ℕ} → w ≡ (row_at rows L 0).weight → (w ≡ 0 → ⊥) → path_at rows L ≡ row_at rows L 0 ∷ path_rest rows L 1
 first_row rows L read some_weight = sym (path_rest_start rows L) ∙ path_rest_row rows L 0 (omega arith) read some_weight
 
-not_alone_by_weight : (r : Row) (rs : List Row) → (r.weight ≡ 1 → ⊥) → alone (r ∷ rs) ≡ false
-unfolding alone
-not_alone_by_weight r [] other = rw (ne_eqb _ _ other)
-not_alone_by_weight r (s ∷ rs) other = refl
-
 not_alone_by_edge : (r : Row) (rs : List Row) → (r.edge ≡ 0 → ⊥) → alone (r ∷ rs) ≡ false
 unfolding alone
 not_alone_by_edge r [] other = rw (ne_eqb _ _ other, and-false)
@@ -118,13 +114,16 @@ unfolding rows_checked rows_in_range
 one_not_alone r rs one h = not_alone (r ∷ rs) h ∙ rw one
 
 module _ (rows : List ℕ) (L : ℕ) {w : ℕ} (read : w ≡ (row_at rows L 0).weight) where
-  pub weight_not_one : (w ≡ 1 → ⊥) → path_checked (path_at rows L) ≡ rows_checked (path_at rows L)
+  pub alone_has_weight_1 : (w ≡ 1 → ⊥) → alone (path_at rows L) ≡ false
   unfolding alone
-  weight_not_one other = not_alone (path_at rows L) (go (zero_or_not w))
+  alone_has_weight_1 other = go (zero_or_not w)
     where
       go : (w ≡ 0) ⊎ (w ≡ 0 → ⊥) → alone (path_at rows L) ≡ false
       go (inl z) = rw (← path_rest_start rows L, path_rest_end rows L 0 (omega arith) read z)
       go (inr n) = rw (first_row rows L read n) (not_alone_by_weight (row_at rows L 0) (path_rest rows L 1) (λ e. other (read ∙ e)))
+
+  pub weight_not_one : (w ≡ 1 → ⊥) → path_checked (path_at rows L) ≡ rows_checked (path_at rows L)
+  weight_not_one other = not_alone (path_at rows L) (alone_has_weight_1 other)
 
   module _ (one : w ≡ 1) {e : ℕ} (read_edge : e ≡ (row_at rows L 0).edge) where
     root : path_at rows L ≡ row_at rows L 0 ∷ path_rest rows L 1

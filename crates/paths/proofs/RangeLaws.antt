@@ -2,16 +2,17 @@
 -- Assumes nothing.
 use Prim.Native.Nat.{ℕ, zero, suc, ◌<◌, ◌≤◌}
 use native.Mathlib.Omega.{arith}
-use mathlib.Core.Path.{◌≡◌, refl, sym, ap₂, subst}
+use mathlib.Core.Path.{◌≡◌, refl, sym, subst}
 use mathlib.Core.Logic.{◌⊎◌, inl, inr}
-use mathlib.Core.Bool.{Bool, true, false, ◌||◌, false≢true, and-eq-true_iff}
+use mathlib.Core.Bool.{Bool, true, false, ◌||◌, and-eq-true_iff}
 use mathlib.Core.List.{List, [], ◌∷◌}
-use lib.Dec.{eqb, ltb, leb}
+use lib.Dec.{ltb, leb}
 use lib.ListN.{length}
-use borrow.Author.Tests.{eqb-true, ltb-true, leb-true}
+use borrow.Author.Tests.{ltb-true, leb-true}
 use Rattle.tree.specs.declared.Row.{Row}
 use Rattle.tree.specs.Tree.{row, product, sum_from, sum}
 use Rattle.tree.specs.Record.{rows_in_range, alone, path_in_range}
+use Rattle.tree.proofs.AlonePaths.{alone_row}
 use Rattle.tree.proofs.Digits.{digits_below}
 use Rattle.tree.proofs.Standing.{sum_row}
 use Rattle.paths.specs.Rules.{row_of}
@@ -21,14 +22,6 @@ use Rattle.paths.specs.Rules.{row_of}
 either_true : (a b : Bool) → (a || b) ≡ true → (a ≡ true) ⊎ (b ≡ true)
 either_true true b h = inl refl
 either_true false b h = inr h
-
-alone_row : (rs : List Row) → alone rs ≡ true → rs ≡ row 1 0 ∷ []
-unfolding alone
-alone_row [] h = absurd (false≢true h)
-alone_row (r ∷ []) h =
-    let both = (and-eq-true_iff (eqb r.weight 1) (eqb r.edge 0)).0 h in
-    ap₂ (λ (w e : ℕ). row w e ∷ []) (eqb-true _ _ both.0) (eqb-true _ _ both.1)
-alone_row (r ∷ s ∷ rs) h = absurd (false≢true h)
 
 module _ (rs : List Row) (in_range : path_in_range rs ≡ true) where
   pub alone_or_in_range : (rs ≡ row 1 0 ∷ []) ⊎ (rows_in_range rs ≡ true)
@@ -49,6 +42,12 @@ row_in_range r rs h =
     let both = (and-eq-true_iff (leb 2 r.weight) _).0 h in
     let rest = (and-eq-true_iff (ltb r.edge r.weight) _).0 both.1 in
     (leb-true _ _ both.0, ltb-true _ _ rest.0, rest.1)
+
+pub weight_at_least_2 : (rs : List Row) → rows_in_range rs ≡ true → (k : ℕ) → k < length rs → 2 ≤ (row_of k rs).weight
+unfolding row_of
+weight_at_least_2 [] in_range k there = absurd (omega arith)
+weight_at_least_2 (r ∷ rs) in_range zero there = (row_in_range r rs in_range).0
+weight_at_least_2 (r ∷ rs) in_range (suc k) there = weight_at_least_2 rs (row_in_range r rs in_range).2 k (omega arith)
 
 -- Each edge is below its weight
 

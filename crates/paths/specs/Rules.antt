@@ -90,11 +90,14 @@ split_path l d [] = []
 split_path zero d (r ∷ rs) = row d (r.edge % d) ∷ row (r.weight / d) (r.edge / d) ∷ rs
 split_path (suc l) d (r ∷ rs) = r ∷ split_path l d rs
 
--- the record with the paths changed of those lines below n that a test takes
-unfoldable pub change_lines : List ℕ → (ℕ → Bool) → (List Row → List Row) → ℕ → List ℕ
-change_lines rows taken change zero = rows
-change_lines rows taken change (suc n) =
-    if taken n then set_line (change_lines rows taken change n) n (change (path_at rows n)) else change_lines rows taken change n
+-- the record with those lines below n that a test takes set to the paths of a family
+unfoldable pub set_lines : List ℕ → (ℕ → Bool) → Family → ℕ → List ℕ
+set_lines rows taken family zero = rows
+set_lines rows taken family (suc n) = if taken n then set_line (set_lines rows taken family n) n (family n) else set_lines rows taken family n
+
+-- the record with their own paths changed
+abbrev pub change_lines : List ℕ → (ℕ → Bool) → (List Row → List Row) → ℕ → List ℕ
+change_lines rows taken change = set_lines rows taken (λ M. change (path_at rows M))
 
 -- the record with the node at level l of path ps split by d, on the lines below n
 abbrev pub split_lines : List ℕ → List Row → ℕ → ℕ → ℕ → List ℕ

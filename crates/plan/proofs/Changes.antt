@@ -5,14 +5,14 @@ use native.Mathlib.Omega.{arith}
 use mathlib.Core.Path.{◌≡◌, refl, sym, ◌∙◌, ap}
 use mathlib.Core.Bool.{true, false}
 use mathlib.Core.List.{List}
+use Rattle.bridge.proofs.RecordBlocks.{zeros_are_empty, record_length}
 use Rattle.std.specs.Prelude.{Option, None, Some, Ok, Err}
-use lib.ListN.{length, replicate, length-replicate}
+use lib.ListN.{length, replicate}
 use Rattle.tree.specs.declared.Plan.{Plan}
-use Rattle.tree.specs.Tree.{Tree, nothing, path, path_of}
+use Rattle.tree.specs.Tree.{Tree, nothing}
 use Rattle.tree.specs.Shape.{Legal}
-use Rattle.tree.specs.Asking.{rows_11}
 use Rattle.tree.specs.Calls.{Call, open_line, close_line, Answer, booked, refused, refusal, reply, carried_out, answer_unless, tree_unless, answer, after}
-use Rattle.tree.specs.Record.{legal, tree_of, numbers, numbers_below, record_of}
+use Rattle.tree.specs.Record.{legal, tree_of, record_of}
 use Rattle.bridge.specs.Rows.{tree_of_rows, rows_unless, rows_after, CarriedOut}
 use Rattle.bridge.proofs.TreeOfRecord.{tree_of_legal, tree_of_illegal}
 use Rattle.bridge.proofs.RecordRoundTrip.{record_legal, record_has_tree}
@@ -47,15 +47,16 @@ plan_after_tree c plan = by_refusal (refusal c (tree_of plan)) refl
 -- The empty plan
 
 pub empty_rows : (rows : List ℕ) → rows ≡ replicate 1408 0 → ◌≡◌ {A = Plan} (record { rows = rows }) empty_plan
-unfolding empty_plan record_of numbers_below numbers rows_11 path_of path
-empty_rows rows h = λ i. record { rows = h i }
+unfolding empty_plan
+empty_rows rows h = λ i. record { rows = (h ∙ zeros_are_empty) i }
 
 pub empty_legal : legal empty_plan.rows ≡ true
 unfolding empty_plan Legal
 empty_legal = record_legal nothing tt
 
 pub empty_has_all : length empty_plan.rows ≡ 1408
-empty_has_all = sym (ap (λ (plan : Plan). length plan.rows) (empty_rows (replicate 1408 0) refl)) ∙ length-replicate {A = ℕ} 1408 0
+unfolding empty_plan
+empty_has_all = record_length nothing
 
 pub empty_tree : tree_of empty_plan ≡ nothing
 unfolding empty_plan Legal

@@ -21,9 +21,10 @@ use Rattle.tree.specs.Answered.{number_of, outcome_of, refusal_in}
 use Rattle.tree.specs.Record.{legal, record_of}
 use Rattle.tree.specs.Image.{image, write_outcome, buffer_after}
 use Rattle.tree.specs.ImageReading.{and_then, read_outcome}
-use Rattle.bridge.specs.Rows.{tree_of_rows}
+use Rattle.bridge.specs.Rows.{tree_of_rows, plan_given, rows_given}
+use Rattle.bridge.proofs.PlanGiven.{tree_given_by, refused_with}
 use Rattle.bridge.proofs.RecordRoundTrip.{record_has_tree}
-use Rattle.images.specs.Images.{ImageWritten, plan_read, rows_read, ImageRead}
+use Rattle.images.specs.Images.{ImageWritten, ImageRead}
 use Rattle.images.proofs.BitsOfBytes.{EachBelow}
 use Rattle.images.proofs.ReadsExactly.{image_read_back, tree_read_legal, read_is_image}
 use Rattle.plan.specs.Meets.{empty_plan}
@@ -43,21 +44,15 @@ written_in_empty rows illegal {e} {before} {after} {a} empty written =
 -- Reading
 
 module _ (bytes before : List ℕ) where
-  pub reading_refused : (e : Refusal) → refuses (number_of e) ≡ plan_read (read_outcome bytes) → ImageRead bytes before before (Err e)
-  unfolding plan_read rows_read refusal_of refusal_in
-  reading_refused e = by_outcome (read_outcome bytes) refl
-    where
-      by_outcome : (o : Outcome Tree) → read_outcome bytes ≡ o → refuses (number_of e) ≡ plan_read o → ImageRead bytes before before (Err e)
-      by_outcome (gives t) is told = let z : ◌≡◌ {A = ℕ} 0 1 = cc in absurd (omega arith)
-      by_outcome (refuses n) is told = record { answer_is = rw is (let same : number_of e ≡ n = cc in ap Some same); rows_are = rw is }
+  pub reading_refused : (e : Refusal) → refuses (number_of e) ≡ plan_given (read_outcome bytes) → ImageRead bytes before before (Err e)
+  unfolding rows_given refusal_of refusal_in
+  reading_refused e told = let is = refused_with _ _ told in record { answer_is = rw is; rows_are = rw is }
 
-  pub reading_given : (plan : Plan) → gives plan ≡ plan_read (read_outcome bytes) → ImageRead bytes before plan.rows (Ok tt)
-  unfolding plan_read rows_read refusal_of refusal_in
-  reading_given plan = by_outcome (read_outcome bytes) refl
-    where
-      by_outcome : (o : Outcome Tree) → read_outcome bytes ≡ o → gives plan ≡ plan_read o → ImageRead bytes before plan.rows (Ok tt)
-      by_outcome (gives t) is told = record { answer_is = rw is; rows_are = rw is (let same : plan ≡ record_of t = cc in ap (λ (p : Plan). p.rows) same) }
-      by_outcome (refuses n) is told = let z : ◌≡◌ {A = ℕ} 0 1 = cc in absurd (omega arith)
+  pub reading_given : (plan : Plan) → gives plan ≡ plan_given (read_outcome bytes) → ImageRead bytes before plan.rows (Ok tt)
+  unfolding rows_given refusal_of refusal_in
+  reading_given plan told =
+      let x = tree_given_by _ _ told in
+      record { answer_is = rw x.given; rows_are = rw x.given (ap (λ (p : Plan). p.rows) x.plan_is) }
 
 -- What was written, and what was read
 
@@ -88,10 +83,10 @@ pub record TreeRead (bytes after : List ℕ) : Type 0 where
 
 module _ (bytes before after : List ℕ) where
   pub image_read : (u : Unit {0}) → ImageRead bytes before after (Ok u) → TreeRead bytes after
-  unfolding rows_read refusal_of refusal_in
+  unfolding rows_given refusal_of refusal_in
   image_read u read = by_outcome (read_outcome bytes) refl read.answer_is read.rows_are
     where
-      by_outcome : (o : Outcome Tree) → read_outcome bytes ≡ o → None ≡ refusal_of o → after ≡ rows_read o before → TreeRead bytes after
+      by_outcome : (o : Outcome Tree) → read_outcome bytes ≡ o → None ≡ refusal_of o → after ≡ rows_given o before → TreeRead bytes after
       by_outcome (gives t) is told left = record { tree = t; read_is = is; rows_are = left }
       by_outcome (refuses n) is told left = absurd (none-some n told)
 

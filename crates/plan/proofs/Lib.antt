@@ -4,3 +4,4 @@ pub mod AskingLaws
 pub mod WalkerLaws
 pub mod Trials
 pub mod ImageCalls
+pub mod WovenAsked

@@ -4,3 +4,4 @@ pub mod Ask
 pub mod Walker
 pub mod Tried
 pub mod RoundTrip
+pub mod WovenAsked

@@ -11,3 +11,5 @@ pub mod round_trip;
 pub mod sheet;
 pub mod trial;
 pub mod walker;
+pub mod weave;
+pub mod weave_then_ask;

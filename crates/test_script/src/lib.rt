@@ -95,7 +95,7 @@ pub fn period_of(asked: u64) -> Period {
     Period(u16::try_from(asked).unwrap_or(u16::MAX))
 }
 
-pub fn run_open(rt: &impl Print, plan: Plan, line: u64, period: u64) -> Plan {
+fn run_open(rt: &impl Print, plan: Plan, line: u64, period: u64) -> Plan {
     let opened = plan::change::open(plan, line, period_of(period));
     let _ = match opened.answer {
         Ok(start) => println!(rt; "open {line} {period} 0 {}", start.0),
@@ -104,7 +104,7 @@ pub fn run_open(rt: &impl Print, plan: Plan, line: u64, period: u64) -> Plan {
     opened.plan
 }
 
-pub fn run_close(rt: &impl Print, plan: Plan, line: u64) -> Plan {
+fn run_close(rt: &impl Print, plan: Plan, line: u64) -> Plan {
     let closed = plan::change::close(plan, line);
     let _ = match closed.answer {
         Ok(()) => println!(rt; "close {line} 0"),
@@ -121,11 +121,27 @@ fn print_shown(rt: &impl Print, line: u64, shown: Shown) {
     let _ = println!(rt);
 }
 
-pub fn run_show(rt: &impl Print, plan: &Plan, line: u64) {
+fn run_show(rt: &impl Print, plan: &Plan, line: u64) {
     match plan::ask::show(plan, line) {
         Ok(shown) => print_shown(rt, line, shown),
         Err(refusal) => {
             let _ = println!(rt; "show {line} {}", u8::from(refusal));
         }
     }
+}
+
+// The steps that three of the programs have, by the kinds 0 to 5: a call that changes the plan, the empty plan again, a number
+// written over, or a question. The kind is matched as the script's number, here and in the programs: so each stands once, beside
+// what it runs, where an enum would name it three times.
+pub fn run_plan_step(rt: &impl Print, plan: Plan, step: Step) -> Plan {
+    let [first, second, _, _] = step.numbers;
+    match step.kind {
+        0 => return run_open(rt, plan, first, second),
+        1 => return run_close(rt, plan, first),
+        2 => return begin(rt),
+        3 => return write_number(rt, plan, first, second),
+        4 => run_owner(rt, &plan, first),
+        _ => run_show(rt, &plan, first),
+    }
+    plan
 }

@@ -19,7 +19,7 @@ use Rattle.tree.specs.Refusals.{open_refusal}
 use Rattle.tree.specs.Calls.{Call, open_line, close_line, refusal, reply, carried_out, answer_unless, tree_unless, answer, after}
 use Rattle.tree.specs.Lists.{Booking, Ledger, ledger_of_tree, with_line, enter, Entry, calls_of, ledger_from, reference_from, answered_from}
 use Rattle.tree.proofs.Closing.{closed_stands, stands_closed, closed_legal}
-use Rattle.tree.proofs.Options.{mapped_some}
+use Rattle.tree.proofs.Options.{mapped_some, same_option}
 use Rattle.tree.proofs.Searching.{found_some}
 use Rattle.tree.proofs.Proper.{legal_proper}
 use Rattle.tree.proofs.Standing.{stands_open, open_stands, path_stands, stands_once}
@@ -126,6 +126,13 @@ agree_of_tree t legal =
           let place = stands_once L t (product x.0) (sum x.0) q u (legal_proper t legal) (path_stands L t x.0 x.1) h in
           rw x.1 (λ i. Some (record { period = place.0 i; start = place.1 i })));
     }
+
+-- and with no other
+pub agree_with_one : (a b : Ledger) (t : Tree) → Agree a t → Agree b t → (L : ℕ) → a L ≡ b L
+agree_with_one a b t x y L =
+    same_option (a L) (b L)
+    (λ c e. y.entered L c.period c.start (x.stands L c e))
+    (λ c e. x.entered L c.period c.start (y.stands L c e))
 
 -- in the empty plan all lines are closed
 pub all_closed_at_first : (L : ℕ) → ledger_of_tree nothing L ≡ None

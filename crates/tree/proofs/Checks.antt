@@ -12,6 +12,7 @@ use borrow.Author.Tests.{eqb-false, ltb-false, lt-ltb, le-ltb, ne_eqb}
 use Rattle.tree.specs.Search.{or_else}
 use Rattle.tree.specs.Tree.{Tree, is_open, Place}
 use Rattle.tree.specs.Shape.{Legal}
+use Rattle.tree.specs.Calls.{gives, refuses, gives_unless}
 use Rattle.tree.specs.Refusals.{Check, refuse, first_refusal, line_above_63, period_out_of_range, no_room, earlier_checks, open_refusal, line_refusal, reason_refusal}
 use Rattle.tree.proofs.Opening.{MayOpen}
 
@@ -43,6 +44,18 @@ none_strikes false n o h = (refl, h)
 pub neither : (a b : Bool) → (a || b) ≡ false → (a ≡ false) × (b ≡ false)
 neither false b h = (refl, h)
 neither true b h = absurd (true≢false h)
+
+-- what is given was not refused
+pub unless_given : {A : Type 0} (refusal : Option ℕ) (a b : A) → gives_unless refusal a ≡ gives b → (refusal ≡ None) × (a ≡ b)
+unfolding gives_unless
+unless_given None a b h = (refl, cc)
+unless_given (Some n) a b h = absurd (cc)
+
+-- what is refused was refused with that number
+pub refused_by : {A : Type 0} (refusal : Option ℕ) (n : ℕ) (a : A) → gives_unless refusal a ≡ refuses n → refusal ≡ Some n
+unfolding gives_unless
+refused_by None n a h = absurd (cc)
+refused_by (Some k) n a h = cc
 
 -- a period that is not out of range
 pub range_positive : (p : ℕ) → period_out_of_range p ≡ false → 0 < p

@@ -22,7 +22,7 @@ use Rattle.tree.proofs.Standing.{open_stands, stands_open}
 
 -- Pruning: a pruned node is the node, or nothing
 
-prune_either : (P : Tree → Type 0) (w : ℕ) (g : ℕ → Tree) → (some_below w (λ e. present (g e)) ≡ true → P (node w g)) → P nothing → P (prune w g)
+pub prune_either : (P : Tree → Type 0) (w : ℕ) (g : ℕ → Tree) → (some_below w (λ e. present (g e)) ≡ true → P (node w g)) → P nothing → P (prune w g)
 unfolding prune
 prune_either P w g kept gone = go (some_below w (λ e. present (g e))) refl
   where

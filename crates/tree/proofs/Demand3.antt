@@ -28,7 +28,7 @@ use Rattle.tree.proofs.Checks.{refused_earlier, refused_by_5, close_allowed, clo
 use Rattle.tree.proofs.Numbering.{stands_number}
 use Rattle.tree.proofs.Standing.{stands_open}
 use Rattle.tree.proofs.Depth.{at_most_11_above}
-use Rattle.tree.proofs.Agreement.{Agree, ledger_open, agree_of_tree, point, agree_along, calls_answered}
+use Rattle.tree.proofs.Agreement.{Agree, ledger_open, agree_of_tree, point, agree_along, calls_answered, agree_with_one}
 
 -- What a call answers
 
@@ -200,6 +200,13 @@ demand_3_from first legal calls =
       closes = λ before L a later e. (let x = point calls (ledger_of_tree first) first at_first before _ later e in
           rw x.by_the_rules (close_answered (ledger_after first before) (reference_from first (calls_of before)) x.agree L));
     }
+
+-- the ledger after the list is that with which another list begins at the tree that was left
+pub ledger_left : (first : Tree) → Legal first → (calls : List Call) (L : ℕ) → ledger_after first (answered_from first calls) L ≡ ledger_of_tree (reference_from first calls) L
+unfolding ledger_after
+ledger_left first legal calls =
+    let agree = agree_along calls (ledger_of_tree first) first (agree_of_tree first legal) in
+    agree_with_one _ _ (reference_from first calls) agree (agree_of_tree _ agree.legal)
 
 -- and so of the empty plan
 pub demand_3 : (calls : List Call) → Demand3 (answered_from nothing calls) (reference calls)

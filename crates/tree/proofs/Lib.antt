@@ -58,3 +58,9 @@ pub mod Demand3
 -- Reasons
 pub mod Reasons
 pub mod ReasonBounds
+-- Weaving
+pub mod AlonePaths
+pub mod WovenPaths
+pub mod WovenLegal
+pub mod WovenLines
+pub mod WovenOwner

@@ -27,7 +27,8 @@ use Rattle.tree.proofs.Proper.{legal_proper}
 use Rattle.tree.proofs.LedRounds.{offset_below_step}
 use Rattle.tree.proofs.Depth.{step_at_most_2047}
 use Rattle.tree.proofs.Checks.{range_positive, range_at_most, reason_refused_2}
-use Rattle.tree.proofs.Reasons.{node_there, class_at_node, refused_by, refused_12_class, reason_given, refused_12, lines_found}
+use Rattle.tree.proofs.Checks.{refused_by}
+use Rattle.tree.proofs.Reasons.{node_there, class_at_node, refused_12_class, reason_given, refused_12, lines_found}
 
 -- the bounds of what is refused with 12: the class i at place a
 pub record RefusedBounds (a : Place) (i : ℕ) : Type 0 where

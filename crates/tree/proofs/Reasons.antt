@@ -30,7 +30,7 @@ use Rattle.tree.proofs.Numbering.{stands_number}
 use Rattle.tree.proofs.Clearing.{proper_present_line}
 use Rattle.tree.proofs.Opening.{at_proper}
 use Rattle.tree.proofs.ChosenCandidate.{chosen_none, no_candidate_chosen_none}
-use Rattle.tree.proofs.Checks.{refused_by_5, none_strikes}
+use Rattle.tree.proofs.Checks.{refused_by_5, none_strikes, unless_given, refused_by}
 
 -- A node at a place
 
@@ -128,16 +128,6 @@ false_and_not false b h = refl
 other_strikes : (b : Bool) (n m : ℕ) (o : Option ℕ) → (n ≡ m → ⊥) → (if b then Some n else o) ≡ Some m → (b ≡ false) × (o ≡ Some m)
 other_strikes true n m o other h = absurd (other (cc))
 other_strikes false n m o other h = (refl, h)
-
-not_refused : (o : Option ℕ) (r s : Reason) → gives_unless o s ≡ gives r → (o ≡ None) × (s ≡ r)
-unfolding gives_unless
-not_refused None r s h = (refl, (cc))
-not_refused (Some n) r s h = let z : ◌≡◌ {A = ℕ} 0 1 = cc in absurd (omega arith)
-
-pub refused_by : (o : Option ℕ) (n : ℕ) (s : Reason) → gives_unless o s ≡ refuses n → o ≡ Some n
-unfolding gives_unless
-refused_by (Some k) n s h = (cc)
-refused_by None n s h = let z : ◌≡◌ {A = ℕ} 0 1 = cc in absurd (omega arith)
 
 pub given_not_refused : (r : Reason) (n : ℕ) → gives r ≡ refuses n → ⊥
 given_not_refused r n h = let z : ◌≡◌ {A = ℕ} 0 1 = cc in omega arith
@@ -239,7 +229,7 @@ module _ (p : ℕ) (a : Place) (i : ℕ) (t : Tree) (legal : Legal t) where
   pub reason_is_true : (r : Reason) → reason_outcome p a i t ≡ gives r → TrueOf p a i t r
   unfolding reason_outcome
   reason_is_true r h =
-      let given = not_refused (reason_refusal p a i t) r (reason p a i t) h in
+      let given = unless_given (reason_refusal p a i t) (reason p a i t) r h in
       let passed = passed_checks p a i t given.0 in
       subst (TrueOf p a i t) given.1 (passed_is_true (divides (step a t) p) refl passed.0 passed.1)
 
@@ -293,7 +283,7 @@ module _ (p : ℕ) (t : Tree) (legal : Legal t) (inside : period_out_of_range p 
           let x = node_there (at a t) there in
           lines_no_candidate p t legal a x.0 x.1 x.2 λ divided i below.
           let class : ClassOfNode p a i t = record { node_there = there; class_below = λ _. node_has_class p (step a t) i (at a t) x.0 x.1 x.2 below } in
-          (passed_checks p a i t (not_refused (reason_refusal p a i t) _ _ (reasons a i class).1).0).1 divided
+          (passed_checks p a i t (unless_given (reason_refusal p a i t) _ _ (reasons a i class).1).0).1 divided
 
   -- what has no reason is refused with 12
   pub reasons_exactly : EachHasReason p t told ↔ NoneRefusedWith12 told

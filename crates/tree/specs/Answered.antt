@@ -7,7 +7,7 @@ use Rattle.tree.specs.declared.refusal.Refusal.TheVariants as refusal
 use Rattle.tree.specs.Refusals.{line_above_63}
 use Rattle.tree.specs.Calls.{Outcome, gives, refuses}
 
--- (Refusals, 1 to 9; Ask 7, 4, 5; Ask 9, 7)
+-- (Refusals, 1 to 9; Ask 7, 4, 5; Ask 9, 7; Ask 10, 6)
 unfoldable pub number_of : Refusal → ℕ
 number_of refusal.LineAbove63 = 1
 number_of refusal.PeriodOutOfRange = 2
@@ -23,6 +23,8 @@ number_of refusal.NoClass = 11
 number_of refusal.NoLineInClass = 12
 number_of refusal.ImageLength = 13
 number_of refusal.ImageField = 14
+number_of refusal.OpenInBoth = 15
+number_of refusal.DoubledPeriodOutOfRange = 16
 
 -- what a call gave, in the terms of what it was asked for, or the number with which it was refused
 unfoldable pub outcome_of : {A B : Type 0} → (A → B) → Result A Refusal → Outcome B

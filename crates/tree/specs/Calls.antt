@@ -68,6 +68,11 @@ unfoldable pub refusal_of : {A : Type 0} → Outcome A → Option ℕ
 refusal_of (gives a) = None
 refusal_of (refuses n) = Some n
 
+-- (Ask 9, 4, 7; Ask 10, 6) the tree of a plan after a call that gives a tree: that one, or as it was where the call is refused
+unfoldable pub tree_given : Outcome Tree → Tree → Tree
+tree_given (gives s) t = s
+tree_given (refuses n) t = t
+
 -- (Asking the plan, 3)
 unfoldable pub show_outcome : ℕ → Tree → Outcome Shown
 show_outcome L t = gives_unless (line_refusal L t) (shown L t)

@@ -1,17 +1,18 @@
--- The joint table: document 01's marked cases A to I, cases C and I as document 02's Asks 6 and 8 have them, without the printing, as calls with the answers that it marks; then thirteen cases of our own.
+-- The joint table: document 01's marked cases A to I, cases C and I as document 02's Asks 6 and 8 have them, without the printing, as calls with the answers that it marks; then fourteen cases of our own.
 -- Each case begins at the empty plan. The one proof over the whole table is in proofs/JointTable.antt.
 -- Assumes nothing.
 use Rattle.std.specs.Prelude.{ℕ, Bool, true, false, List, [], ◌∷◌, ◌++◌, length, take, replicate, Option, None, Some}
 use Rattle.tree.specs.declared.Row.{Row}
 use Rattle.tree.specs.declared.Sheet.{Sheet}
-use Rattle.tree.specs.Tree.{Tree, row, path_of, nodes}
+use Rattle.tree.specs.Tree.{Tree, nothing, row, path_of, nodes}
 use Rattle.tree.specs.Asking.{OwnerOrRest, owned_by, idle_for, owner_or_rest, rows_11, Shown}
 use Rattle.tree.specs.Sheet.{sheet}
 use Rattle.tree.specs.Reason.{Reason, step_does_not_divide, line_stands}
-use Rattle.tree.specs.Calls.{open_line, close_line, Answer, booked, done, refused, answer, after, Outcome, gives, refuses, refusal_of, show_outcome, turns_outcome, reason_outcome}
+use Rattle.tree.specs.Calls.{open_line, close_line, Answer, booked, done, refused, answer, after, Outcome, gives, refuses, refusal_of, tree_given, show_outcome, turns_outcome, reason_outcome}
 use Rattle.tree.specs.Trial.{Trial, trial_outcome}
 use Rattle.tree.specs.Image.{image}
-use Rattle.tree.specs.ImageReading.{read_outcome, tree_read}
+use Rattle.tree.specs.ImageReading.{read_outcome}
+use Rattle.tree.specs.Weaving.{weave_outcome}
 
 -- a call or a question with its answer
 pub data Step : Type 0 where
@@ -27,6 +28,7 @@ pub data Step : Type 0 where
   reason_at : ℕ → ℕ → ℕ → ℕ → Outcome Reason → Step
   image_is : List ℕ → Step
   reads : List ℕ → Option ℕ → Step
+  weaves : Tree → Option ℕ → Step
 
 -- the same call or question, with the answer that the definitions give in tree t
 unfoldable pub answered : Tree → Step → Step
@@ -42,6 +44,7 @@ answered t (sheet_of first N a) = sheet_of first N (sheet first N t)
 answered t (reason_at p l r i a) = reason_at p l r i (reason_outcome p (record { level = l; offset = r }) i t)
 answered t (image_is bytes) = image_is (image t)
 answered t (reads bytes a) = reads bytes (refusal_of (read_outcome bytes))
+answered t (weaves b a) = weaves b (refusal_of (weave_outcome t b))
 
 -- the tree that it leaves
 unfoldable pub next : Tree → Step → Tree
@@ -56,7 +59,8 @@ next t (tries L p a) = t
 next t (sheet_of first N a) = t
 next t (reason_at p l r i a) = t
 next t (image_is bytes) = t
-next t (reads bytes a) = tree_read (read_outcome bytes) t
+next t (reads bytes a) = tree_given (read_outcome bytes) t
+next t (weaves b a) = tree_given (weave_outcome t b) t
 
 -- a whole case answered by the definitions, from tree t
 unfoldable pub replayed : Tree → List Step → List Step
@@ -400,6 +404,48 @@ images =
     ∷ image_is (4 ∷ 8 ∷ 128 ∷ 16 ∷ 0 ∷ 18 ∷ 64 ∷ 4 ∷ 0 ∷ 32 ∷ 4 ∷ 0 ∷ 0 ∷ [])
     ∷ []))
 
+-- the tree of a plan with one line
+unfoldable pub one_line : ℕ → ℕ → Tree
+one_line L p = after (open_line L p) nothing
+
+-- ours: weaving, always with the case's plan so far on side A. Two empty plans; a root of weight 1 on side B; an open that is refused and one that is not; a close that joins the root
+-- with what is left below it; an empty side B; a line open in both, a doubled period above 4,095, and both of them; an empty side A, with a doubled period of 4,094, which cannot be
+-- doubled again; a root of weight 1 on both sides.
+unfoldable pub plans_woven : List Step
+plans_woven =
+    weaves nothing None
+    ∷ nodes_in_all 0
+    ∷ opens 1 6 (booked 0)
+    ∷ opens 2 6 (booked 1)
+    ∷ weaves (one_line 3 1) None
+    ∷ show 1 (shows 12 0 (row 2 0 ∷ row 6 0 ∷ []))
+    ∷ show 2 (shows 12 2 (row 2 0 ∷ row 6 1 ∷ []))
+    ∷ show 3 (shows 2 1 (row 2 1 ∷ []))
+    ∷ owner_of 14 (owned_by 2)
+    ∷ owner_of 15 (owned_by 3)
+    ∷ owner_of 16 (idle_for 1)
+    ∷ opens 4 4 (refused 5)
+    ∷ opens 4 6 (booked 4)
+    ∷ closes 3 done
+    ∷ show 4 (shows 6 4 (row 6 4 ∷ []))
+    ∷ weaves nothing None
+    ∷ show 2 (shows 24 4 (row 2 0 ∷ row 6 2 ∷ row 2 0 ∷ []))
+    ∷ weaves (one_line 2 1) (Some 15)
+    ∷ weaves (one_line 5 2048) (Some 16)
+    ∷ weaves (one_line 2 2048) (Some 15)
+    ∷ closes 1 done
+    ∷ closes 2 done
+    ∷ closes 4 done
+    ∷ weaves (one_line 5 2047) None
+    ∷ show 5 (shows 4094 1 (row 2 1 ∷ row 2047 0 ∷ []))
+    ∷ weaves nothing (Some 16)
+    ∷ closes 5 done
+    ∷ opens 6 1 (booked 0)
+    ∷ weaves (one_line 5 1) None
+    ∷ show 6 (shows 2 0 (row 2 0 ∷ []))
+    ∷ show 5 (shows 2 1 (row 2 1 ∷ []))
+    ∷ []
+
 unfoldable pub cases : List (List Step)
 cases =
     case_A
@@ -424,4 +470,5 @@ cases =
     ∷ reasons
     ∷ nodes_joined
     ∷ images
+    ∷ plans_woven
     ∷ []

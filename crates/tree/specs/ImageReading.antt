@@ -116,8 +116,3 @@ behind_refusal bytes plan =
 -- (Ask 9, 4, 7) What reading bytes gives: the image's tree, or the refusal.
 unfoldable pub read_outcome : List ℕ → Outcome Tree
 read_outcome bytes = and_then (read_plan (bits_of bytes)) (λ plan. gives_unless (behind_refusal bytes plan) (tree_of_lines plan.value))
-
--- (Ask 9, 4, 7) The tree of the plan after it: the image's, or as it was where reading is refused.
-unfoldable pub tree_read : Outcome Tree → Tree → Tree
-tree_read (gives s) t = s
-tree_read (refuses n) t = t

@@ -22,4 +22,5 @@ pub mod Record
 pub mod Bits
 pub mod Image
 pub mod ImageReading
+pub mod Weaving
 pub mod Cases

@@ -22,6 +22,8 @@ pub enum Refusal {
     NoLineInClass = 12,
     ImageLength = 13,
     ImageField = 14,
+    OpenInBoth = 15,
+    DoubledPeriodOutOfRange = 16,
 }
 
 impl From<Refusal> for u8 {
@@ -49,6 +51,8 @@ impl fmt::Display for Refusal {
             Refusal::NoLineInClass => "no line stands in the class",
             Refusal::ImageLength => "the image has too few or too many bytes",
             Refusal::ImageField => "the image's bits are no legal tree's",
+            Refusal::OpenInBoth => "a line is open in both plans",
+            Refusal::DoubledPeriodOutOfRange => "a doubled period is above 4,095",
         })
     }
 }

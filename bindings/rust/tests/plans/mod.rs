@@ -15,8 +15,13 @@ pub fn case_f() -> Vec<(u64, u64)> {
 
 /// Opens lines 1, 2, 3 .. with periods that have these starts.
 pub fn opened(lines: &[(u64, u64)]) -> Plan {
+    opened_from(1, lines)
+}
+
+/// The same from another line on.
+pub fn opened_from(first: u64, lines: &[(u64, u64)]) -> Plan {
     let mut plan = Plan::new();
-    for (line, &(period, start)) in (1..).zip(lines) {
+    for (line, &(period, start)) in (first..).zip(lines) {
         let answer = plan.open(Line(line), Period(period));
         assert_eq!(answer, Ok(Start(start)));
     }

@@ -1,14 +1,14 @@
 use native.Mathlib.Omega.{arith}
 use Prim.Native.Nat.{◌<◌}
 use mathlib.Core.Path.{◌≡◌, refl, ◌∙◌}
-use Rattle.paths.specs.Rules.{change_lines}
+use Rattle.paths.specs.Rules.{set_lines}
 use Rattle.paths.proofs.PathRows.{within_path}
 use Rattle.booking.proofs.SplitNode.{line_passed, through_splittable, line_split}
 use Rattle.booking.proofs.split_node.Goals as goal
 use Rattle.booking.proofs.split_node.Goals.{then-same_node, else-same_node}
 
 pub loop-number-init : goal.loop-number-init
-unfolding change_lines
+unfolding set_lines
 loop-number-init c = refl
 
 pub same_node-requires : goal.same_node-requires

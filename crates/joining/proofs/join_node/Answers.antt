@@ -1,12 +1,12 @@
 use mathlib.Core.Path.{refl, ◌∙◌}
-use Rattle.paths.specs.Rules.{change_lines}
+use Rattle.paths.specs.Rules.{set_lines}
 use Rattle.joining.proofs.LinesThrough.{is_through, not_through}
 use Rattle.joining.proofs.JoinNode.{still_joinable, line_joined, line_passed}
 use Rattle.joining.proofs.join_node.Goals as goal
 use Rattle.joining.proofs.join_node.Goals.{then-level-common, else-level-common}
 
 pub loop-number-init : goal.loop-number-init
-unfolding change_lines
+unfolding set_lines
 loop-number-init c = refl
 
 pub join_line-requires : goal.join_line-requires

@@ -6,6 +6,8 @@ use Rattle.tree.specs.declared.Start.{Start}
 use Rattle.tree.specs.declared.refusal.Refusal.{Refusal}
 use Rattle.lists.specs.Lists.{carried}
 use Rattle.lists.specs.Runs.{answer_in}
+use Rattle.bridge.proofs.TreeOfRecord.{legal_on_record}
+use Rattle.lists.proofs.AnswersFit.{order_answer_fits}
 use Rattle.lists.proofs.OrdersInTurn.{next_taken, running_none, running_more, running_all}
 use Rattle.lists.proofs.run_orders.Goals as goal
 
@@ -20,6 +22,10 @@ loop-k-init c = running_none _ _ _ c.requires.is_legal
 
 pub run_order-answer-requires : goal.run_order-answer-requires
 run_order-answer-requires c = c.loop-k.invariant.is_legal
+
+pub write_answer-requires-clause-result : goal.write_answer-requires-clause-result
+write_answer-requires-clause-result c =
+    rw c.run_order-answer.ensures.answer_is (order_answer_fits _ _ (legal_on_record _)).result_fits
 
 pub loop-k-preserved : goal.loop-k-preserved
 loop-k-preserved c =

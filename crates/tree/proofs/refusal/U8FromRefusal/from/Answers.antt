@@ -25,6 +25,8 @@ numbered refusal.NoClass = refl
 numbered refusal.NoLineInClass = refl
 numbered refusal.ImageLength = refl
 numbered refusal.ImageField = refl
+numbered refusal.OpenInBoth = refl
+numbered refusal.DoubledPeriodOutOfRange = refl
 
 pub returns : goal.returns
 returns c = numbered c.args.refusal
