@@ -1,5 +1,5 @@
 -- Demand 3 of lists that begin at any plan (document 02, Ask 9): the ledger begins with the lines of that plan's tree, and the reference tree is that tree.
--- So it is with the empty plan, of which Ran.antt, RanOnRows.antt and RanInLibrary.antt speak, and with a plan that was read.
+-- So it is with the empty plan, of which Ran.antt, RanOnRows.antt and RanInLibrary.antt speak, with a plan that was read, and with a woven one.
 -- Assumes nothing.
 use Rattle.std.specs.Prelude.{ℕ, ◌≡◌, List, ℤ}
 use Rattle.tree.specs.declared.Plan.{Plan}
@@ -30,7 +30,7 @@ pub record ClaimsFrom (first : Tree) (entries : List Entry) (t : Tree) : Type 0 
   -- and the sheet call
   pub sheet_for : (a N : ℕ) (s : Sheet) → s ≡ sheet a N t → SheetFor (ledger_after first entries) a N s
 
--- (Ask 9, 6) Of every list of calls by value, whatever plan its first call is given.
+-- (Ask 9, 6; Ask 10, 5) Of every list of calls by value, whatever plan its first call is given.
 unfoldable pub FromPlanOfCalls : Type 0
 FromPlanOfCalls = (entries : List Entry) (first last : Plan) → Ran first entries last → ClaimsFrom (tree_of first) entries (tree_of last)
 

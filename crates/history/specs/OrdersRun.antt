@@ -32,7 +32,7 @@ pub record Demand3OfOrders (first : Tree) (orders lent : List ℕ) (after : Plan
   -- the whole claim, of the calls that were read and of the tree of the plan that the list left, and the owner call and the sheet call, put to that plan
   pub claims : ClaimsFrom first entries (tree_of after)
 
--- (Ask 9, 6) Of every list of orders that is not refused, whatever plan it is run on.
+-- (Ask 9, 6; Ask 10, 5) Of every list of orders that is not refused, whatever plan it is run on.
 unfoldable pub FromPlanOfLists : Type 0
 FromPlanOfLists =
     (first : Plan) (orders lent : List ℕ) (after : Plan) (written : List ℕ) → ListRan first orders lent None after written →

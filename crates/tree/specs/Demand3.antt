@@ -1,5 +1,5 @@
 -- Demand 3 (documents 00 and 01): one claim about a whole list of opens and closes, with the answers that were given and the tree that was left.
--- A list begins at the empty plan, or at a plan that was read (document 02, Ask 9): the claim is stated over the tree of the first plan.
+-- A list begins at the empty plan, at a plan that was read (document 02, Ask 9), or at a woven one (Ask 10): the claim is stated over the tree of the first plan.
 -- It measures against the ledger and the reference tree (Lists.antt) and nothing else.
 -- Assumes nothing.
 use Rattle.std.specs.Prelude.{ℕ, ◌<◌, ◌≤◌, ◌≡◌, ◌↔◌, List, ◌∷◌, ◌++◌, length, if◌then◌else◌, None, Some}

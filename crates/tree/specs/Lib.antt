@@ -1,4 +1,4 @@
--- What a reader must believe: document 01 as definitions, in its own order, and the chosen candidate, turns, rests, trials, sheets and reasons as document 02 has them. A mark such as (The tree, 6) names the sentence
+-- What a reader must believe: document 01 as definitions, in its own order, and the chosen candidate, turns, rests, trials, sheets, reasons, joining, images and weaving as document 02 has them. A mark such as (The tree, 6) names the sentence
 -- that a definition renders, counted within that section of document 01, (Ask 1, 2) one of document 02; docs/RULES.md has the rules under these numbers,
 -- docs/TRACE.md what renders and shows each.
 pub mod Numbers

@@ -1,5 +1,5 @@
--- The lists of demand 3: the ledger and the reference tree (document 01, The lists of demand 3), which begin at the empty plan or at a plan that was read
--- (document 02, Ask 9).
+-- The lists of demand 3: the ledger and the reference tree (document 01, The lists of demand 3), which begin at the empty plan, at a plan that was read
+-- (document 02, Ask 9), or at a woven one (Ask 10).
 -- Assumes nothing.
 use Rattle.std.specs.Prelude.{ℕ, ◌%◌, ◌≡◌, List, [], ◌∷◌, eqb, if◌then◌else◌, Option, None, Some, option_map}
 use Rattle.tree.specs.Tree.{Tree, nothing, product, sum, path}
@@ -14,7 +14,7 @@ pub record Booking : Type 0 where
 abbrev pub Ledger : Type 0
 Ledger = ℕ → Option Booking
 
--- (The lists of demand 3, 8; Ask 9, 6) The ledger with which a list begins at a tree: the tree's lines, each with its period and start.
+-- (The lists of demand 3, 8; Ask 9, 6; Ask 10, 5) The ledger with which a list begins at a tree: the tree's lines, each with its period and start.
 -- In the empty plan all lines are closed (`all_closed_at_first`).
 unfoldable pub ledger_of_tree : Tree → Ledger
 ledger_of_tree t L = option_map (λ rs. record { period = product rs; start = sum rs }) (path L t)
@@ -46,7 +46,7 @@ unfoldable pub ledger_from : Ledger → List Entry → Ledger
 ledger_from ledger [] = ledger
 ledger_from ledger (x ∷ xs) = ledger_from (enter x.call x.answer ledger) xs
 
--- (The lists of demand 3, 7; Ask 9, 6) The ledger after a list that began at a tree.
+-- (The lists of demand 3, 7; Ask 9, 6; Ask 10, 5) The ledger after a list that began at a tree.
 unfoldable pub ledger_after : Tree → List Entry → Ledger
 ledger_after first xs = ledger_from (ledger_of_tree first) xs
 
@@ -54,7 +54,7 @@ ledger_after first xs = ledger_from (ledger_of_tree first) xs
 unfoldable pub ledger_of : List Entry → Ledger
 ledger_of xs = ledger_after nothing xs
 
--- (The lists of demand 3, 13; Ask 9, 6) The reference tree after a list that began at a tree.
+-- (The lists of demand 3, 13; Ask 9, 6; Ask 10, 5) The reference tree after a list that began at a tree.
 unfoldable pub reference_from : Tree → List Call → Tree
 reference_from t [] = t
 reference_from t (c ∷ cs) = reference_from (after c t) cs
