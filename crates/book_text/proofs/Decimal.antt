@@ -25,7 +25,7 @@ same_digits (suc k) (suc m) n left right = by_size (ltb n 10) refl (λ large. sa
     by_size true e fronts = refl
     by_size false e fronts = ap (λ (front : List ℕ). front ++ ((48 + n % 10) ∷ [])) (fronts (ltb-false n 10 e))
 
-one_digit : (n : ℕ) → n < 10 → decimal n ≡ (48 + n) ∷ []
+pub one_digit : (n : ℕ) → n < 10 → decimal n ≡ (48 + n) ∷ []
 unfolding decimal last_digits
 one_digit n small = rw (lt-ltb n 10 small)
 

@@ -40,8 +40,12 @@ impl Text<'_> {
         requires { length (decimal number) ≤ room self.old }
         ensures { Appended self.old (decimal number) self.new }
     {
-        let mut digits = Buffer::new();
-        self.append(digits.format(number).as_bytes());
+        if number < 10 {
+            self.append(&[b'0' + number as u8]);
+        } else {
+            let mut digits = Buffer::new();
+            self.append(digits.format(number).as_bytes());
+        }
     }
 
     // Writes a number and a space.
