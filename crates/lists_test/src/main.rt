@@ -5,6 +5,7 @@
 
 ghost use Rattle.std.specs.Prelude.{◌≤◌};
 
+use std::fmt;
 use std::io::Read;
 use test_script::{Step, begin, run_owner, run_script, write_number};
 use tree::Plan;
@@ -24,21 +25,26 @@ fn print_number(rt: &impl Print, plan: &Plan, place: u64) {
     let _ = println!(rt; "number {place} {number}");
 }
 
-// Some answers, two bytes each, on one line.
-fn print_line(rt: &impl Print, answers: &[u8]) {
-    let (answers, _) = answers.as_chunks::<2>();
-    let mut space = "";
-    for answer in answers {
-        let _ = print!(rt; "{space}{:04x}", u16::from_be_bytes(*answer));
-        space = " ";
+// Some answers, two bytes each, as they are printed on one line.
+#[derive(Clone, Copy)]
+struct Answers<'a>(&'a [u8]);
+
+impl fmt::Display for Answers<'_> {
+    fn fmt<W: fmt::Write>(&self, f: &mut fmt::Formatter<W>) -> fmt::Result {
+        let (answers, _) = self.0.as_chunks::<2>();
+        let mut space = "";
+        for answer in answers {
+            write!(f, "{space}{:04x}", u16::from_be_bytes(*answer))?;
+            space = " ";
+        }
+        Ok(())
     }
-    let _ = println!(rt);
 }
 
 // The answers, 16 to a line.
 fn print_answers(rt: &impl Print, answers: &[u8]) {
     for line in answers.chunks(32) {
-        print_line(rt, line);
+        let _ = println!(rt; "{}", Answers(line));
     }
 }
 
@@ -90,8 +96,9 @@ fn give(script: &mut impl Read, bytes: &mut [u8], count: u64) -> Option<()> {
     }
     let (given, rest) = bytes.split_at_mut(count);
     script.read_exact(given).ok()?;
-    for (byte, repeated) in rest.iter_mut().zip(given.iter().cycle()) {
-        *byte = *repeated;
+    for piece in rest.chunks_mut(count) {
+        let size = piece.len().min(count);
+        piece[..size].copy_from_slice(&given[..size]);
     }
     Some(())
 }
