@@ -22,11 +22,19 @@ pub struct Spot {
     ghost start_in_range: { node.offset + class * node.step ≤ 4095 },
 }
 
+// The start r + i·m that a class of a node offers, whatever line leads to the node.
+pub fn start_in(offset: u16, step: u16, class: u16) -> Start
+    requires { offset + class * step ≤ 4095 }
+    ensures { result.0 ≡ offset + class * step }
+{
+    Start(offset + class * step)
+}
+
 impl Spot {
-    // The start r + i·m that the candidate offers.
+    // The start that the candidate offers.
     pub fn start(self) -> Start
         ensures { result.0 ≡ self.node.offset + self.class * self.node.step }
     {
-        Start(self.node.offset + self.class * self.node.step)
+        start_in(self.node.offset, self.node.step, self.class)
     }
 }
