@@ -34,7 +34,8 @@ impl Text<'_> {
         self.place = end;
     }
 
-    // Writes a number in decimal digits.
+    // Writes a number in decimal digits. Most have one, which is written as it is: `itoa` fills a buffer for each number, and the
+    // digits are copied from there.
     #[tactic(auto, using(crate::proofs::Decimal::decimal_printed))]
     fn append_decimal(&mut self, number: u64)
         requires { length (decimal number) ≤ room self.old }

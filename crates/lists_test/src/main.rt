@@ -88,7 +88,8 @@ fn run_list(rt: &impl Print, plan: Plan, bytes: &[u8], length: u64, room: u64) -
     ran.plan
 }
 
-// Reads so many bytes, and repeats them to the end of the buffer. None where they are not there.
+// Reads so many bytes, and repeats them to the end of the buffer, of which the last piece may be shorter. None where they are
+// not there.
 fn give(script: &mut impl Read, bytes: &mut [u8], count: u64) -> Option<()> {
     let count = within(count, bytes.len());
     if count == 0 {
